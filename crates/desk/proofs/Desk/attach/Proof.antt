@@ -1,0 +1,102 @@
+-- `desk::Desk::attach` meets its contract. Assumes nothing.
+use borrow.Author.Needs.{needs}
+use borrow.Author.Tests.{ltb-true}
+use mathlib.Core.Path.{_≡_, refl, sym, _∙_}
+use mathlib.Core.List.{List}
+use Rattle.rows.specs.Answers.{Check, refusal}
+use Rattle.rows.proofs.Laws.{passed}
+use Rattle.desk.specs.Calls.{Call, attachedAs, checks}
+use Rattle.desk.proofs.Outcome.{accepted, refused}
+use Rattle.desk.proofs.Desk.attach.Statement.{statement}
+use Rattle.desk.proofs.Desk.attach.Tie as tie
+
+lowest-free-requires : tie.Need-lowest-free-requires
+lowest-free-requires c κs = search needs
+
+in-use-requires : tie.Need-in-use-requires
+in-use-requires c κs = search needs
+
+in-use-requires-2 : tie.Need-in-use-requires-2
+in-use-requires-2 c κs = search needs
+
+check-requires : tie.Need-check-requires
+check-requires c κs = search needs
+
+check-requires-2 : tie.Need-check-requires-2
+check-requires-2 c κs = search needs
+
+check-requires-3 : tie.Need-check-requires-3
+check-requires-3 c κs = search needs
+
+cast-with-code : tie.Need-cast-with-code
+cast-with-code c = search needs
+
+with-code-requires : tie.Need-with-code-requires
+with-code-requires c κs = search needs
+
+cast-t18 : tie.Need-cast-t18
+cast-t18 c = search needs
+
+mul-t19 : tie.Need-mul-t19
+mul-t19 c = search needs
+
+-- 01's checks of the call; attach input has the same
+abbrev asked : tie.After-check3 → List Check
+asked c =
+    let given = c .before .before .before .before .before .before .args in
+    checks (given .t1) (Call.attach-output (given .thread) (given .channel))
+
+code-of : (c : tie.After-check3) → c .check3 .result ≡ refusal (asked c)
+unfolding refusal checks
+code-of c =
+    let checking = c .before .before in
+    let exists = checking .before in
+    let lives = exists .before in
+    let free = lives .before .lowest-free .ensures in
+    simp (c .check3 .ensures, c .before .check2 .ensures, checking .check .ensures, exists .in-use2 .ensures, lives .in-use .ensures, free)
+
+-- the check of the free place holds, so it is in the table
+element-set-from-self : tie.Need-element-set-from-self
+unfolding checks
+element-set-from-self c =
+    let checked = c .before .before in
+    let free = checked .before .before .before .before .before .lowest-free .ensures in
+    let pass = passed (asked checked) (refl, (refl, (refl, tt))) (sym (code-of checked) ∙ c .if1 .taken) in
+    rw free (ltb-true _ _ (pass .1 .1 .0))
+
+with-requires : tie.Need-with-requires
+with-requires c κs = search needs
+
+returns : tie.Need-returns
+unfolding attachedAs
+returns c =
+    let checked = c .before .before .before in
+    let free = checked .before .before .before .before .before .lowest-free .ensures in
+    let answer = rw free at (c .before .before .with-code .ensures) in
+    rw (c .with .ensures, free) (accepted _ _ _ _ _ (code-of checked) answer (c .before .if1 .taken))
+
+returns-2 : tie.Need-returns-2
+returns-2 c =
+    let checked = c .before .before in
+    let free = checked .before .before .before .before .before .lowest-free .ensures in
+    let answer = rw free at (c .before .with-code .ensures) in
+    refused _ _ _ _ _ (code-of checked) answer (c .if1 .left)
+
+pub attach-spec : {M : Type 1} → statement M
+attach-spec =
+    tie.close
+    (tie.spec
+    lowest-free-requires
+    in-use-requires
+    in-use-requires-2
+    check-requires
+    check-requires-2
+    check-requires-3
+    cast-with-code
+    with-code-requires
+    cast-t18
+    mul-t19
+    element-set-from-self
+    with-requires
+    returns
+    returns-2)

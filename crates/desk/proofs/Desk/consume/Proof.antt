@@ -1,0 +1,135 @@
+-- `desk::Desk::consume` meets its contract. Assumes nothing.
+use mathlib.Core.Path.{_≡_, refl}
+use Prim.Native.Nat.{_<_}
+use native.Mathlib.Omega.{arith}
+use borrow.Author.Needs.{needs}
+use Rattle.rows.specs.Answers.{refusal}
+use Rattle.tables.specs.Tables.{owns}
+use Rattle.tables.specs.Seen.{state}
+use Rattle.desk.specs.declared.Desk.{Desk}
+use Rattle.desk.specs.Calls.{Call, step, checks, effect, value, time}
+use Rattle.desk.proofs.Outcome.{accepted, refused}
+use Rattle.desk.proofs.Owned.{accepted-below}
+use Rattle.desk.proofs.Desk.consume.Statement.{statement}
+use Rattle.desk.proofs.Desk.consume.Tie as tie
+
+-- of the place where the code is known: the start, the desk, and the call that 01 describes
+abbrev start : tie.After-check5 → tie.Start
+start c = c .before .before .before .before .before .before .before .before .before .before .before .before .before .before
+
+abbrev desk-of : tie.After-check5 → Desk
+desk-of c = start c .args .t1
+
+abbrev call-of : tie.After-check5 → Call
+call-of c = let given = start c .args in Call.consume (given .thread) (given .connection) (given .timestamp)
+
+-- the code is that of 01's checks
+code-of : (c : tie.After-check5) → c .check5 .result ≡ refusal (checks (desk-of c) (call-of c))
+unfolding refusal checks owns state
+code-of c =
+    let opened = c .before .before .before .before .before in
+    let owned = opened .before .before .before in
+    simp (
+      c .check5 .ensures,
+      c .before .check4 .ensures,
+      c .before .before .check3 .ensures,
+      c .before .before .before .check2 .ensures,
+      c .before .before .before .before .check .ensures,
+      opened .is-open .ensures,
+      opened .before .state-of .ensures,
+      owned .is-owned .ensures,
+      owned .before .in-use .ensures,
+      owned .before .before .find .ensures,
+      owned .before .before .before .connection-at .ensures,
+    )
+
+-- an accepted call names one of the 32 places
+connection-below : (c : tie.After-check5) → c .check5 .result ≡ 0 → start c .args .connection < 32
+unfolding checks
+connection-below c zero =
+    accepted-below (desk-of c) (start c .args .thread) (start c .args .connection) _ (code-of c) (refl, (refl, (refl, tt))) zero
+
+connection-at-requires : tie.Need-connection-at-requires
+connection-at-requires c κs = search needs
+
+find-requires : tie.Need-find-requires
+find-requires c κs = search needs
+
+in-use-requires : tie.Need-in-use-requires
+in-use-requires c κs = search needs
+
+is-owned-requires : tie.Need-is-owned-requires
+is-owned-requires c κs = search needs
+
+state-of-requires : tie.Need-state-of-requires
+state-of-requires c κs = search needs
+
+is-open-requires : tie.Need-is-open-requires
+is-open-requires c κs = search needs
+
+check-requires : tie.Need-check-requires
+check-requires c κs = search needs
+
+check-requires-2 : tie.Need-check-requires-2
+check-requires-2 c κs = search needs
+
+check-requires-3 : tie.Need-check-requires-3
+check-requires-3 c κs = search needs
+
+check-requires-4 : tie.Need-check-requires-4
+check-requires-4 c κs = search needs
+
+check-requires-5 : tie.Need-check-requires-5
+check-requires-5 c κs = search needs
+
+with-code-requires : tie.Need-with-code-requires
+with-code-requires c κs = search needs
+
+consumed-by-name-requires : tie.Need-consumed-by-name-requires
+consumed-by-name-requires c κs = search needs
+
+mul-t26 : tie.Need-mul-t26
+mul-t26 c =
+    let inside = connection-below (c .before .before .before) (c .before .if1 .taken) in
+    omega arith
+
+element-set-from-self : tie.Need-element-set-from-self
+element-set-from-self c = connection-below (c .before .before .before) (c .before .if1 .taken)
+
+returns : tie.Need-returns
+unfolding step effect value time
+returns c =
+    let answered = c .before .before in
+    let checked = answered .before in
+    let found = checked .before .before .before .before .before .before .before .before .before .before in
+    rw (c .consumed-by-name .ensures, found .find .ensures, found .before .connection-at .ensures)
+    (accepted (desk-of checked) _ _ _ (effect (desk-of checked) (call-of checked)) (code-of checked) (answered .with-code .ensures) (c .before .if1 .taken))
+
+returns-2 : tie.Need-returns-2
+unfolding step effect value time
+returns-2 c =
+    let answered = c .before in
+    let checked = answered .before in
+    refused (desk-of checked) _ _ _ (effect (desk-of checked) (call-of checked)) (code-of checked) (answered .with-code .ensures) (c .if1 .left)
+
+pub consume-spec : {M : Type 1} → statement M
+consume-spec =
+    tie.close
+    (tie.spec
+    connection-at-requires
+    find-requires
+    in-use-requires
+    is-owned-requires
+    state-of-requires
+    is-open-requires
+    check-requires
+    check-requires-2
+    check-requires-3
+    check-requires-4
+    check-requires-5
+    with-code-requires
+    consumed-by-name-requires
+    mul-t26
+    element-set-from-self
+    returns
+    returns-2)

@@ -1,0 +1,129 @@
+-- `desk::Desk::consume_until` meets its contract. Assumes nothing.
+use mathlib.Core.Path.{_≡_, refl, sym, _∙_}
+use Prim.Native.Nat.{_<_}
+use native.Mathlib.Omega.{arith}
+use borrow.Author.Needs.{needs}
+use borrow.Author.Tests.{ltb-true}
+use Rattle.rows.specs.Answers.{refusal}
+use Rattle.rows.specs.Numbers.{never}
+use Rattle.rows.proofs.Laws.{passed}
+use Rattle.tables.specs.Tables.{owns}
+use Rattle.desk.specs.declared.Desk.{Desk}
+use Rattle.desk.specs.Calls.{Call, step, checks, effect, value, time}
+use Rattle.desk.proofs.Outcome.{accepted, refused}
+use Rattle.desk.proofs.Owned.{accepted-below}
+use Rattle.desk.proofs.Desk.consume_until.Statement.{statement}
+use Rattle.desk.proofs.Desk.consume_until.Tie as tie
+
+-- of the place where the code is known: the start, the desk, and the call that 01 describes
+abbrev start : tie.After-check4 → tie.Start
+start c = c .before .before .before .before .before .before .before .before .before
+
+abbrev desk-of : tie.After-check4 → Desk
+desk-of c = start c .args .t1
+
+abbrev call-of : tie.After-check4 → Call
+call-of c = let given = start c .args in Call.consume-until (given .thread) (given .connection) (given .timestamp)
+
+-- the code is that of 01's checks
+code-of : (c : tie.After-check4) → c .check4 .result ≡ refusal (checks (desk-of c) (call-of c))
+unfolding refusal checks owns
+code-of c =
+    let owned = c .before .before .before .before .before in
+    simp (
+      c .check4 .ensures,
+      c .before .check3 .ensures,
+      c .before .before .check2 .ensures,
+      c .before .before .before .check .ensures,
+      owned .is-owned .ensures,
+      owned .before .in-use .ensures,
+      owned .before .before .connection-at .ensures,
+    )
+
+-- an accepted call names one of the 32 places
+connection-below : (c : tie.After-check4) → c .check4 .result ≡ 0 → start c .args .connection < 32
+unfolding checks
+connection-below c zero =
+    accepted-below (desk-of c) (start c .args .thread) (start c .args .connection) _ (code-of c) (refl, (refl, tt)) zero
+
+timestamp-below : (c : tie.After-check4) → c .check4 .result ≡ 0 → start c .args .timestamp < never
+unfolding checks
+timestamp-below c zero =
+    let pass = passed (checks (desk-of c) (call-of c)) (refl, (refl, (refl, (refl, tt)))) (sym (code-of c) ∙ zero) in
+    ltb-true _ _ (pass .1 .1 .1 .0)
+
+connection-at-requires : tie.Need-connection-at-requires
+connection-at-requires c κs = search needs
+
+in-use-requires : tie.Need-in-use-requires
+in-use-requires c κs = search needs
+
+is-owned-requires : tie.Need-is-owned-requires
+is-owned-requires c κs = search needs
+
+check-requires : tie.Need-check-requires
+check-requires c κs = search needs
+
+check-requires-2 : tie.Need-check-requires-2
+check-requires-2 c κs = search needs
+
+check-requires-3 : tie.Need-check-requires-3
+check-requires-3 c κs = search needs
+
+check-requires-4 : tie.Need-check-requires-4
+check-requires-4 c κs = search needs
+
+with-code-requires : tie.Need-with-code-requires
+with-code-requires c κs = search needs
+
+-- 5 leaves never out, so the next timestamp is a number still
+add-raised : tie.Need-add-raised
+add-raised c =
+    let given = timestamp-below (c .before .before) (c .if1 .taken) in
+    omega arith
+
+raised-requires : tie.Need-raised-requires
+raised-requires c κs = search needs
+
+mul-t22 : tie.Need-mul-t22
+mul-t22 c =
+    let inside = connection-below (c .before .before .before) (c .before .if1 .taken) in
+    omega arith
+
+element-set-from-self : tie.Need-element-set-from-self
+element-set-from-self c = connection-below (c .before .before .before) (c .before .if1 .taken)
+
+returns : tie.Need-returns
+unfolding step effect value time
+returns c =
+    let answered = c .before .before in
+    let checked = answered .before in
+    let row-read = checked .before .before .before .before .before .before .before in
+    rw (c .raised .ensures, row-read .connection-at .ensures)
+    (accepted (desk-of checked) _ _ _ (effect (desk-of checked) (call-of checked)) (code-of checked) (answered .with-code .ensures) (c .before .if1 .taken))
+
+returns-2 : tie.Need-returns-2
+unfolding step effect value time
+returns-2 c =
+    let answered = c .before in
+    let checked = answered .before in
+    refused (desk-of checked) _ _ _ (effect (desk-of checked) (call-of checked)) (code-of checked) (answered .with-code .ensures) (c .if1 .left)
+
+pub consume-until-spec : {M : Type 1} → statement M
+consume-until-spec =
+    tie.close
+    (tie.spec
+    connection-at-requires
+    in-use-requires
+    is-owned-requires
+    check-requires
+    check-requires-2
+    check-requires-3
+    check-requires-4
+    with-code-requires
+    add-raised
+    raised-requires
+    mul-t22
+    element-set-from-self
+    returns
+    returns-2)

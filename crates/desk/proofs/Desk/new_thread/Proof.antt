@@ -1,0 +1,93 @@
+-- `desk::Desk::new_thread` meets its contract. Assumes nothing.
+use borrow.Author.Tests.{ltb-true}
+use Rattle.desk.proofs.Outcome.{accepted, refused}
+use Rattle.desk.specs.Calls.{Call, step, checks, effect, value, time, adopted}
+use Rattle.rows.proofs.Laws.{passed}
+use Rattle.rows.specs.Answers.{refusal}
+use mathlib.Core.Path.{_≡_, refl, sym, _∙_}
+use borrow.Author.Needs.{needs}
+use Rattle.desk.proofs.Desk.new_thread.Statement.{statement}
+use Rattle.desk.proofs.Desk.new_thread.Tie as tie
+
+visible-requires : tie.Need-visible-requires
+visible-requires c κs = search needs
+
+lowest-free-requires : tie.Need-lowest-free-requires
+lowest-free-requires c κs = search needs
+
+in-use-requires : tie.Need-in-use-requires
+in-use-requires c κs = search needs
+
+check-requires : tie.Need-check-requires
+check-requires c κs = search needs
+
+check-requires-2 : tie.Need-check-requires-2
+check-requires-2 c κs = search needs
+
+check-requires-3 : tie.Need-check-requires-3
+check-requires-3 c κs = search needs
+
+cast-with-code : tie.Need-cast-with-code
+cast-with-code c = search needs
+
+with-code-requires : tie.Need-with-code-requires
+with-code-requires c κs = search needs
+
+cast-t17 : tie.Need-cast-t17
+cast-t17 c = search needs
+
+mul-t18 : tie.Need-mul-t18
+mul-t18 c = search needs
+
+-- the code is that of 01's checks
+code-of : (c : tie.After-check3) → let a = c .before .before .before .before .before .before .args in c .check3 .result ≡ refusal (checks (a .t1) (Call.new-thread (a .thread) (a .time)))
+unfolding refusal checks
+code-of c =
+    let in-use = c .before .before .before in
+    let free = in-use .before in
+    simp (c .check3 .ensures, c .before .check2 .ensures, c .before .before .check .ensures, in-use .in-use .ensures, free .lowest-free .ensures, free .before .visible .ensures)
+
+element-set-from-self : tie.Need-element-set-from-self
+unfolding checks
+element-set-from-self c =
+    let k = c .before .before in
+    let free = k .before .before .before .before in
+    let a = free .before .before .args in
+    rw (free .lowest-free .ensures) (ltb-true _ _ (passed (checks (a .t1) (Call.new-thread (a .thread) (a .time))) (refl, (refl, (refl, tt))) (sym (code-of k) ∙ c .if1 .taken) .1 .1 .0))
+
+with-requires : tie.Need-with-requires
+with-requires c κs = search needs
+
+returns : tie.Need-returns
+unfolding step effect value time adopted
+returns c =
+    let k = c .before .before .before in
+    let free = k .before .before .before .before in
+    rw (c .with .ensures, free .lowest-free .ensures)
+    (accepted (free .before .before .args .t1) _ _ _ _ (code-of k) (c .before .before .with-code .ensures ∙ rw (free .lowest-free .ensures)) (c .before .if1 .taken))
+
+returns-2 : tie.Need-returns-2
+unfolding step effect value time
+returns-2 c =
+    let k = c .before .before in
+    let free = k .before .before .before .before in
+    refused (free .before .before .args .t1) _ _ _ _ (code-of k) (c .before .with-code .ensures ∙ rw (free .lowest-free .ensures)) (c .if1 .left)
+
+pub new-thread-spec : {M : Type 1} → statement M
+new-thread-spec =
+    tie.close
+    (tie.spec
+    visible-requires
+    lowest-free-requires
+    in-use-requires
+    check-requires
+    check-requires-2
+    check-requires-3
+    cast-with-code
+    with-code-requires
+    cast-t17
+    mul-t18
+    element-set-from-self
+    with-requires
+    returns
+    returns-2)

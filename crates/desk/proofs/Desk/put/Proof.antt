@@ -1,0 +1,153 @@
+-- `desk::Desk::put` meets its contract. Assumes nothing.
+use mathlib.Core.Path.{_≡_, refl, sym, _∙_}
+use Prim.Native.Nat.{_<_}
+use borrow.Author.Needs.{needs}
+use borrow.Author.Tests.{ltb-true}
+use Rattle.rows.specs.Answers.{refusal}
+use Rattle.rows.proofs.Laws.{passed}
+use Rattle.tables.specs.Tables.{owns}
+use Rattle.desk.specs.declared.Desk.{Desk}
+use Rattle.desk.specs.Calls.{Call, step, checks, effect, value, time, stored}
+use Rattle.desk.proofs.Outcome.{accepted, refused}
+use Rattle.desk.proofs.Owned.{fewer-free}
+use Rattle.desk.proofs.Desk.put.Statement.{statement}
+use Rattle.desk.proofs.Desk.put.Tie as tie
+
+-- of the place where the code is known: the start, the desk, and the call that 01 describes
+abbrev start : tie.After-check7 → tie.Start
+start c = c .before .before .before .before .before .before .before .before .before .before .before .before .before .before .before .before .before
+
+abbrev desk-of : tie.After-check7 → Desk
+desk-of c = start c .args .t1
+
+abbrev call-of : tie.After-check7 → Call
+call-of c = let given = start c .args in Call.put (given .thread) (given .connection) (given .timestamp) (given .ticket)
+
+-- the code is that of 01's checks
+code-of : (c : tie.After-check7) → c .check7 .result ≡ refusal (checks (desk-of c) (call-of c))
+unfolding refusal checks owns
+code-of c =
+    let owned = c .before .before .before .before .before .before .before .before in
+    let row-read = owned .before .before .before .before .before in
+    simp (
+      c .check7 .ensures,
+      c .before .check6 .ensures,
+      c .before .before .check5 .ensures,
+      c .before .before .before .check4 .ensures,
+      c .before .before .before .before .check3 .ensures,
+      c .before .before .before .before .before .check2 .ensures,
+      c .before .before .before .before .before .before .check .ensures,
+      owned .is-owned .ensures,
+      owned .before .in-use .ensures,
+      owned .before .before .count .ensures,
+      owned .before .before .before .before .find .ensures,
+      row-read .connection-at .ensures,
+      row-read .before .visible .ensures,
+    )
+
+-- an accepted call has a free place: 8 leaves a full desk out
+place-below : (c : tie.After-check7) → c .check7 .result ≡ 0 → c .before .before .before .before .before .before .before .before .before .before .before .lowest-free .result < 64
+unfolding checks
+place-below c zero =
+    let pass = passed (checks (desk-of c) (call-of c)) (refl, (refl, (refl, (refl, (refl, (refl, (refl, tt))))))) (sym (code-of c) ∙ zero) in
+    rw (c .before .before .before .before .before .before .before .before .before .before .before .lowest-free .ensures) (fewer-free (desk-of c .present) (ltb-true _ _ (pass .1 .1 .1 .1 .1 .1 .0)))
+
+visible-requires : tie.Need-visible-requires
+visible-requires c κs = search needs
+
+connection-at-requires : tie.Need-connection-at-requires
+connection-at-requires c κs = search needs
+
+find-requires : tie.Need-find-requires
+find-requires c κs = search needs
+
+lowest-free-requires : tie.Need-lowest-free-requires
+lowest-free-requires c κs = search needs
+
+count-requires : tie.Need-count-requires
+count-requires c κs = search needs
+
+in-use-requires : tie.Need-in-use-requires
+in-use-requires c κs = search needs
+
+is-owned-requires : tie.Need-is-owned-requires
+is-owned-requires c κs = search needs
+
+check-requires : tie.Need-check-requires
+check-requires c κs = search needs
+
+check-requires-2 : tie.Need-check-requires-2
+check-requires-2 c κs = search needs
+
+check-requires-3 : tie.Need-check-requires-3
+check-requires-3 c κs = search needs
+
+check-requires-4 : tie.Need-check-requires-4
+check-requires-4 c κs = search needs
+
+check-requires-5 : tie.Need-check-requires-5
+check-requires-5 c κs = search needs
+
+check-requires-6 : tie.Need-check-requires-6
+check-requires-6 c κs = search needs
+
+check-requires-7 : tie.Need-check-requires-7
+check-requires-7 c κs = search needs
+
+with-code-requires : tie.Need-with-code-requires
+with-code-requires c κs = search needs
+
+cast-t33 : tie.Need-cast-t33
+cast-t33 c = search needs
+
+mul-t34 : tie.Need-mul-t34
+mul-t34 c = search needs
+
+element-set-from-self : tie.Need-element-set-from-self
+element-set-from-self c = place-below (c .before .before) (c .if1 .taken)
+
+with-requires : tie.Need-with-requires
+with-requires c κs = search needs
+
+returns : tie.Need-returns
+unfolding step effect value time stored
+returns c =
+    let answered = c .before .before in
+    let checked = answered .before in
+    let placed = checked .before .before .before .before .before .before .before .before .before .before .before in
+    let row-read = placed .before .before in
+    rw (c .with .ensures, placed .lowest-free .ensures, row-read .connection-at .ensures)
+    (accepted (desk-of checked) _ _ _ (effect (desk-of checked) (call-of checked)) (code-of checked) (answered .with-code .ensures) (c .before .if1 .taken))
+
+returns-2 : tie.Need-returns-2
+unfolding step effect value time
+returns-2 c =
+    let answered = c .before in
+    let checked = answered .before in
+    refused (desk-of checked) _ _ _ (effect (desk-of checked) (call-of checked)) (code-of checked) (answered .with-code .ensures) (c .if1 .left)
+
+pub put-spec : {M : Type 1} → statement M
+put-spec =
+    tie.close
+    (tie.spec
+    visible-requires
+    connection-at-requires
+    find-requires
+    lowest-free-requires
+    count-requires
+    in-use-requires
+    is-owned-requires
+    check-requires
+    check-requires-2
+    check-requires-3
+    check-requires-4
+    check-requires-5
+    check-requires-6
+    check-requires-7
+    with-code-requires
+    cast-t33
+    mul-t34
+    element-set-from-self
+    with-requires
+    returns
+    returns-2)

@@ -1,0 +1,69 @@
+-- `desk::Desk::set` meets its contract. Assumes nothing.
+use Rattle.desk.proofs.Outcome.{accepted, refused}
+use Rattle.desk.proofs.Owned.{used-below}
+use Rattle.desk.specs.Calls.{Call, step, checks, effect, value, time}
+use Rattle.rows.proofs.Laws.{passed}
+use Rattle.rows.specs.Answers.{refusal}
+use mathlib.Core.Path.{_≡_, refl, sym, _∙_}
+use borrow.Author.Needs.{needs}
+use Rattle.desk.proofs.Desk.set.Statement.{statement}
+use Rattle.desk.proofs.Desk.set.Tie as tie
+
+visible-requires : tie.Need-visible-requires
+visible-requires c κs = search needs
+
+in-use-requires : tie.Need-in-use-requires
+in-use-requires c κs = search needs
+
+check-requires : tie.Need-check-requires
+check-requires c κs = search needs
+
+check-requires-2 : tie.Need-check-requires-2
+check-requires-2 c κs = search needs
+
+with-code-requires : tie.Need-with-code-requires
+with-code-requires c κs = search needs
+
+mul-t15 : tie.Need-mul-t15
+mul-t15 c = search needs
+
+-- the code is that of 01's checks
+code-of : (c : tie.After-check2) → let a = c .before .before .before .before .args in c .check2 .result ≡ refusal (checks (a .t1) (Call.set-time (a .thread) (a .time)))
+unfolding refusal checks
+code-of c =
+    let in-use = c .before .before in
+    simp (c .check2 .ensures, c .before .check .ensures, in-use .in-use .ensures, in-use .before .visible .ensures)
+
+element-set-from-self : tie.Need-element-set-from-self
+unfolding checks
+element-set-from-self c =
+    let k = c .before .before in
+    let a = k .before .before .before .before .args in
+    used-below (a .t1 .living) (passed (checks (a .t1) (Call.set-time (a .thread) (a .time))) (refl, (refl, tt)) (sym (code-of k) ∙ c .if1 .taken) .0)
+
+returns : tie.Need-returns
+unfolding step effect value time
+returns c =
+    let k = c .before .before in
+    let a = k .before .before .before .before .args in
+    accepted (a .t1) _ _ _ _ (code-of k) (c .before .with-code .ensures) (c .if1 .taken)
+
+returns-2 : tie.Need-returns-2
+unfolding step effect value time
+returns-2 c =
+    let k = c .before .before in
+    refused (k .before .before .before .before .args .t1) _ _ _ _ (code-of k) (c .before .with-code .ensures) (c .if1 .left)
+
+pub set-spec : {M : Type 1} → statement M
+set-spec =
+    tie.close
+    (tie.spec
+    visible-requires
+    in-use-requires
+    check-requires
+    check-requires-2
+    with-code-requires
+    mul-t15
+    element-set-from-self
+    returns
+    returns-2)

@@ -1,0 +1,22 @@
+-- `desk::Desk::strong_sweep` meets its contract. Assumes nothing.
+use borrow.Author.Needs.{needs}
+use Rattle.desk.specs.Calls.{step, checks, effect, sliceAfter, value, time}
+use Rattle.desk.proofs.Desk.strong_sweep.Statement.{statement}
+use Rattle.desk.proofs.Desk.strong_sweep.Tie as tie
+
+strong-requires : tie.Need-strong-requires
+strong-requires c κs = search needs
+
+sweep-requires : tie.Need-sweep-requires
+sweep-requires c κs = search needs
+
+same-length : tie.Need-same-length
+same-length c = search needs
+
+-- the sweep that takes a bound, at the strong bound
+returns : tie.Need-returns
+unfolding step checks effect sliceAfter value time
+returns c = rw (c .before .before .before .before .strong .ensures) at (c .before .before .sweep .ensures)
+
+pub strong-sweep-spec : {M : Type 1} → statement M
+strong-sweep-spec = tie.close (tie.spec strong-requires sweep-requires same-length returns)

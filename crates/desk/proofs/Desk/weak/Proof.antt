@@ -1,0 +1,22 @@
+-- `desk::Desk::weak` meets its contract. Assumes nothing.
+use Rattle.desk.specs.Times.{weakBound}
+use mathlib.Core.Path.{_∙_}
+use borrow.Author.Needs.{needs}
+use Rattle.desk.proofs.Desk.weak.Statement.{statement}
+use Rattle.desk.proofs.Desk.weak.Tie as tie
+
+least-time-requires : tie.Need-least-time-requires
+least-time-requires c κs = search needs
+
+least-keep-requires : tie.Need-least-keep-requires
+least-keep-requires c κs = search needs
+
+smaller-requires : tie.Need-smaller-requires
+smaller-requires c κs = search needs
+
+returns : tie.Need-returns
+unfolding weakBound
+returns c = c .smaller .ensures ∙ simp (c .before .before .least-time .ensures, c .before .least-keep .ensures)
+
+pub weak-spec : {M : Type 1} → statement M
+weak-spec = tie.close (tie.spec least-time-requires least-keep-requires smaller-requires returns)

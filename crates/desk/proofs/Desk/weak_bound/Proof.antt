@@ -1,0 +1,20 @@
+-- `desk::Desk::weak_bound` meets its contract. Assumes nothing.
+use Rattle.rows.specs.Answers.{refusal}
+use Rattle.desk.specs.Questions.{reply, questionChecks, replyValue, replyTime}
+use mathlib.Core.Path.{_∙_}
+use borrow.Author.Needs.{needs}
+use Rattle.desk.proofs.Desk.weak_bound.Statement.{statement}
+use Rattle.desk.proofs.Desk.weak_bound.Tie as tie
+
+weak-requires : tie.Need-weak-requires
+weak-requires c κs = search needs
+
+with-code-requires : tie.Need-with-code-requires
+with-code-requires c κs = search needs
+
+returns : tie.Need-returns
+unfolding reply questionChecks replyValue replyTime refusal
+returns c = c .with-code .ensures ∙ simp (c .before .weak .ensures)
+
+pub weak-bound-spec : {M : Type 1} → statement M
+weak-bound-spec = tie.close (tie.spec weak-requires with-code-requires returns)

@@ -1,0 +1,4 @@
+-- The laws that the proofs of the desk's calls share.
+pub mod Outcome
+pub mod Cases
+pub mod Owned

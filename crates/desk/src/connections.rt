@@ -1,0 +1,73 @@
+// The calls on connections: attach input, attach output, detach.
+ghost use mathlib.Core.Path.{_≡_};
+ghost use Rattle.desk.specs.Calls.{Call, attachedAs, checks, connected, freeConnection, outcome, step};
+use crate::Desk;
+use crate::Next;
+use crate::is_owned;
+use rows::Answer;
+use rows::Connection;
+use rows::answers::check;
+use tables::places::connection_at;
+use tables::places::in_use;
+
+impl Desk {
+    // A new connection in the lowest free place, with this direction and mark.
+    fn attach(mut self, thread: u32, channel: u32, direction: u32, mark: u32) -> Next
+        ensures { λ r. ⌜ r ≡ outcome self (checks self (Call.attach-output thread channel)) (freeConnection self) mark (attachedAs self (connected direction thread channel mark)) ⌝ }
+    {
+        let place = words::lowest_free(self.attached);
+        let code = check(
+            in_use(self.living, thread, Desk::THREADS),
+            1,
+            check(
+                in_use(self.channels, channel, Desk::CHANNELS),
+                2,
+                check(place < Desk::CONNECTIONS, 9, 0),
+            ),
+        );
+        let answer = Answer::with_code(code, place as u64, mark);
+        if code == 0 {
+            self.connections[place as usize] = Connection {
+                direction,
+                thread,
+                channel,
+                mark,
+                opened: 0,
+                consumed: 0,
+            };
+            self.attached = words::with(self.attached, place);
+        }
+        Next { answer, desk: self }
+    }
+
+    pub fn attach_input(self, thread: u32, channel: u32) -> Next
+        ensures { λ r. ⌜ r ≡ step self (Call.attach-input thread channel) ⌝ }
+    {
+        let visible = self.visible(thread);
+        self.attach(thread, channel, Connection::INPUT, visible)
+    }
+
+    pub fn attach_output(self, thread: u32, channel: u32) -> Next
+        ensures { λ r. ⌜ r ≡ step self (Call.attach-output thread channel) ⌝ }
+    {
+        self.attach(thread, channel, Connection::OUTPUT, 0)
+    }
+
+    pub fn detach(mut self, thread: u32, connection: u32) -> Next
+        ensures { λ r. ⌜ r ≡ step self (Call.detach thread connection) ⌝ }
+    {
+        let connections = self.connections;
+        let row = connection_at(connections, connection);
+        let code = check(
+            in_use(self.living, thread, Desk::THREADS),
+            1,
+            check(is_owned(self.attached, connection, row, thread), 3, 0),
+        );
+        let answer = Answer::with_code(code, 0, 0);
+        if code == 0 {
+            self.connections[connection as usize] = Connection::NONE;
+            self.attached = words::without(self.attached, connection);
+        }
+        Next { answer, desk: self }
+    }
+}

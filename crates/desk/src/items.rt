@@ -1,0 +1,171 @@
+// The calls on items: put, get, consume, consume until.
+ghost use mathlib.Core.Path.{_≡_};
+ghost use Rattle.desk.specs.Calls.{Call, step, isFound, which-given};
+use crate::Desk;
+use crate::Next;
+use crate::is_owned;
+use rows::Answer;
+use rows::Connection;
+use rows::Found;
+use rows::Item;
+use rows::Which;
+use rows::answers::check;
+use tables::places::connection_at;
+use tables::places::in_use;
+use tables::search::find;
+use tables::search::seek;
+
+// Whether the search found an item.
+fn is_found(found: Found) -> bool
+    ensures { λ r. ⌜ r ≡ isFound found ⌝ }
+{
+    match found {
+        Found::At(_, _) => true,
+        Found::Nothing => false,
+    }
+}
+
+// Whether a get that names a timestamp names one that is not never.
+fn is_given(which: Which) -> bool
+    ensures { λ r. ⌜ r ≡ (which-given which) .holds ⌝ }
+{
+    match which {
+        Which::Earliest => true,
+        Which::Latest => true,
+        Which::Named(timestamp) => timestamp < Desk::NEVER,
+    }
+}
+
+impl Desk {
+    pub fn put(mut self, thread: u32, connection: u32, timestamp: u32, ticket: u64) -> Next
+        ensures { λ r. ⌜ r ≡ step self (Call.put thread connection timestamp ticket) ⌝ }
+    {
+        let connections = self.connections;
+        let items = self.items;
+        let visible = self.visible(thread);
+        let row = connection_at(connections, connection);
+        let same = find(items, self.present, row.channel, timestamp);
+        let place = words::lowest_free(self.present);
+        let room = words::count(self.present);
+        let code = check(
+            in_use(self.living, thread, Desk::THREADS),
+            1,
+            check(
+                is_owned(self.attached, connection, row, thread),
+                3,
+                check(
+                    row.direction == Connection::OUTPUT,
+                    4,
+                    check(
+                        timestamp < Desk::NEVER,
+                        5,
+                        check(
+                            visible <= timestamp,
+                            6,
+                            check(Desk::ITEMS <= same, 7, check(room < Desk::ITEMS, 8, 0)),
+                        ),
+                    ),
+                ),
+            ),
+        );
+        let answer = Answer::with_code(code, 0, 0);
+        if code == 0 {
+            self.items[place as usize] = Item {
+                channel: row.channel,
+                timestamp,
+                ticket,
+            };
+            self.present = words::with(self.present, place);
+        }
+        Next { answer, desk: self }
+    }
+
+    pub fn get(mut self, thread: u32, connection: u32, which: Which) -> Next
+        ensures { λ r. ⌜ r ≡ step self (Call.get thread connection which) ⌝ }
+    {
+        let connections = self.connections;
+        let items = self.items;
+        let row = connection_at(connections, connection);
+        let found = seek(items, self.present, row, which);
+        let code = check(
+            in_use(self.living, thread, Desk::THREADS),
+            1,
+            check(
+                is_owned(self.attached, connection, row, thread),
+                3,
+                check(
+                    row.direction == Connection::INPUT,
+                    4,
+                    check(is_given(which), 5, check(is_found(found), 10, 0)),
+                ),
+            ),
+        );
+        let Found::At(place, item) = found else {
+            return Next {
+                answer: Answer::with_code(code, 0, 0),
+                desk: self,
+            };
+        };
+        let answer = Answer::with_code(code, item.ticket, item.timestamp);
+        if code == 0 {
+            self.connections[connection as usize] = row.got(place);
+        }
+        Next { answer, desk: self }
+    }
+
+    pub fn consume(mut self, thread: u32, connection: u32, timestamp: u32) -> Next
+        ensures { λ r. ⌜ r ≡ step self (Call.consume thread connection timestamp) ⌝ }
+    {
+        let connections = self.connections;
+        let items = self.items;
+        let row = connection_at(connections, connection);
+        let place = find(items, self.present, row.channel, timestamp);
+        let code = check(
+            in_use(self.living, thread, Desk::THREADS),
+            1,
+            check(
+                is_owned(self.attached, connection, row, thread),
+                3,
+                check(
+                    row.direction == Connection::INPUT,
+                    4,
+                    check(
+                        timestamp < Desk::NEVER,
+                        5,
+                        check(row.state_of(timestamp, place).is_open(), 11, 0),
+                    ),
+                ),
+            ),
+        );
+        let answer = Answer::with_code(code, 0, 0);
+        if code == 0 {
+            self.connections[connection as usize] = row.consumed_by_name(place);
+        }
+        Next { answer, desk: self }
+    }
+
+    pub fn consume_until(mut self, thread: u32, connection: u32, timestamp: u32) -> Next
+        ensures { λ r. ⌜ r ≡ step self (Call.consume-until thread connection timestamp) ⌝ }
+    {
+        let connections = self.connections;
+        let row = connection_at(connections, connection);
+        let code = check(
+            in_use(self.living, thread, Desk::THREADS),
+            1,
+            check(
+                is_owned(self.attached, connection, row, thread),
+                3,
+                check(
+                    row.direction == Connection::INPUT,
+                    4,
+                    check(timestamp < Desk::NEVER, 5, 0),
+                ),
+            ),
+        );
+        let answer = Answer::with_code(code, 0, 0);
+        if code == 0 {
+            self.connections[connection as usize] = row.raised(timestamp + 1);
+        }
+        Next { answer, desk: self }
+    }
+}

@@ -1,0 +1,57 @@
+// Questions without effect.
+ghost use mathlib.Core.Path.{_≡_};
+ghost use Rattle.desk.specs.Questions.{Question, reply};
+use crate::Desk;
+use rows::Answer;
+use rows::Connection;
+use rows::answers::check;
+use tables::places::connection_at;
+use tables::places::in_use;
+use tables::search::find;
+
+impl Desk {
+    pub fn visible_time(self, thread: u32) -> Answer
+        ensures { λ r. ⌜ r ≡ reply self (Question.visible-time thread) ⌝ }
+    {
+        let visible = self.visible(thread);
+        let code = check(in_use(self.living, thread, Desk::THREADS), 1, 0);
+        Answer::with_code(code, 0, visible)
+    }
+
+    pub fn weak_bound(self) -> Answer
+        ensures { λ r. ⌜ r ≡ reply self Question.weak-bound ⌝ }
+    {
+        Answer::with_code(0, 0, self.weak())
+    }
+
+    pub fn strong_bound(self) -> Answer
+        ensures { λ r. ⌜ r ≡ reply self Question.strong-bound ⌝ }
+    {
+        Answer::with_code(0, 0, self.strong())
+    }
+
+    pub fn state(self, connection: u32, timestamp: u32) -> Answer
+        ensures { λ r. ⌜ r ≡ reply self (Question.state-of connection timestamp) ⌝ }
+    {
+        let connections = self.connections;
+        let items = self.items;
+        let row = connection_at(connections, connection);
+        let place = find(items, self.present, row.channel, timestamp);
+        let code = check(
+            in_use(self.attached, connection, Desk::CONNECTIONS),
+            3,
+            check(
+                row.direction == Connection::INPUT,
+                4,
+                check(timestamp < Desk::NEVER, 5, 0),
+            ),
+        );
+        Answer::with_code(code, row.state_of(timestamp, place).number(), 0)
+    }
+
+    pub fn items_present(self) -> Answer
+        ensures { λ r. ⌜ r ≡ reply self Question.items-present ⌝ }
+    {
+        Answer::with_code(0, words::count(self.present) as u64, 0)
+    }
+}

@@ -1,0 +1,52 @@
+// The two sweeps.
+ghost use mathlib.Core.Path.{_≡_};
+ghost use mathlib.Core.List.{[], _∷_};
+ghost use Rattle.words.specs.Words.{count};
+ghost use Rattle.leaving.specs.Leaving.{handedBack, leaving};
+ghost use Rattle.desk.specs.Calls.{Call, outcome, slice-long, sliceAfter, step, swept};
+ghost use Rattle.desk.specs.Desk.{itemsOf};
+use crate::Desk;
+use crate::Next;
+use leaving::below;
+use leaving::hand_back;
+use leaving::swept_connections;
+use leaving::swept_items;
+use rows::Answer;
+use rows::answers::check;
+
+impl Desk {
+    // A sweep that takes the bound.
+    fn sweep(mut self, bound: u32, slice: &mut [u64]) -> Next
+        ensures { λ r. ⌜ (r ≡ outcome self (slice-long self bound (now (slice .entry)) ∷ []) (count (leaving (itemsOf self) bound)) bound (swept self bound)) × (now (slice .exit) ≡ handedBack (self .items) (leaving (itemsOf self) bound) (now (slice .entry))) ⌝ }
+    {
+        let connections = self.connections;
+        let items = self.items;
+        let gone = below(items, self.present, bound);
+        let number = words::count(gone);
+        let code = check(number as usize <= slice.len(), 12, 0);
+        let answer = Answer::with_code(code, number as u64, bound);
+        hand_back(items, gone, slice);
+        if code == 0 {
+            let left = swept_items(items, gone);
+            let seen = swept_connections(connections, self.attached, bound, gone);
+            self.items = left;
+            self.present = words::less(self.present, gone);
+            self.connections = seen;
+        }
+        Next { answer, desk: self }
+    }
+
+    pub fn weak_sweep(self, slice: &mut [u64]) -> Next
+        ensures { λ r. ⌜ (r ≡ step self (Call.weak-sweep (now (slice .entry)))) × (now (slice .exit) ≡ sliceAfter self (Call.weak-sweep (now (slice .entry)))) ⌝ }
+    {
+        let bound = self.weak();
+        self.sweep(bound, slice)
+    }
+
+    pub fn strong_sweep(self, slice: &mut [u64]) -> Next
+        ensures { λ r. ⌜ (r ≡ step self (Call.strong-sweep (now (slice .entry)))) × (now (slice .exit) ≡ sliceAfter self (Call.strong-sweep (now (slice .entry)))) ⌝ }
+    {
+        let bound = self.strong();
+        self.sweep(bound, slice)
+    }
+}

@@ -1,0 +1,3 @@
+-- The laws of what leaves, and of the rows afterwards.
+pub mod Left
+pub mod Rows

@@ -1,0 +1,105 @@
+-- `leaving::below` meets its contract. Assumes nothing.
+use mathlib.Core.Path.{_≡_, refl}
+use mathlib.Core.Bool.{Bool}
+use mathlib.Core.List.{List}
+use Prim.Native.Nat.{ℕ}
+use borrow.Author.Needs.{needs}
+use native.Mathlib.Omega.{arith}
+use lib.Dec.{ltb}
+use lib.ListN.{getD}
+use Rattle.words.specs.Places.{each}
+use Rattle.words.specs.Words.{has, count, lowest}
+use Rattle.words.proofs.Walk.{each-turn, each-done, each-falls}
+use Rattle.rows.specs.declared.Item.{Item}
+use Rattle.rows.specs.Numbers.{noItem}
+use Rattle.tables.specs.Tables.{table}
+use Rattle.leaving.specs.Leaving.{leaves, leaving}
+use Rattle.tables.proofs.Used.{joined, joined-all}
+use Rattle.leaving.proofs.below.Statement.{statement}
+use Rattle.leaving.proofs.below.Tie as tie
+
+-- what the loop tests in a place
+is-below : List Item → ℕ → ℕ → Bool
+is-below items bound p = ltb (getD items p noItem .timestamp) bound
+
+whole : (items : List Item) (present bound : ℕ) → each 64 (has present) (joined (is-below items bound)) 0 ≡ leaving (table present items) bound
+unfolding leaving leaves is-below
+whole items present bound = joined-all 64 present (leaves (table present items) bound) (is-below items bound) (omega arith) (λ p inside. refl)
+
+abbrev Inv-loop : tie.InvT-loop
+Inv-loop present bound items gone₀ rest₀ p₀ gone rest p =
+    (p ≡ lowest rest) × (each 64 (has rest) (joined (is-below items bound)) gone ≡ leaving (table present items) bound)
+
+abbrev μ-loop : tie.MeasureT-loop
+μ-loop present bound items gone₀ rest₀ p₀ gone rest p = count rest
+
+lowest-requires : tie.Need-lowest-requires Inv-loop μ-loop
+lowest-requires c κs = search needs
+
+loop-holds : tie.Need-loop-holds Inv-loop μ-loop
+loop-holds c = (c .lowest .ensures, whole (c .before .args .t1) (c .before .args .present) (c .before .args .bound))
+
+cast-item : tie.Need-cast-item Inv-loop μ-loop
+cast-item c = search needs
+
+mul-item : tie.Need-mul-item Inv-loop μ-loop
+mul-item c = search needs
+
+array-copy-out-item : tie.Need-array-copy-out-item Inv-loop μ-loop
+array-copy-out-item c = search needs
+
+with-if-requires : tie.Need-with-if-requires Inv-loop μ-loop
+with-if-requires c κs = search needs
+
+without-requires : tie.Need-without-requires Inv-loop μ-loop
+without-requires c κs = search needs
+
+lowest-requires-2 : tie.Need-lowest-requires-2 Inv-loop μ-loop
+lowest-requires-2 c κs = search needs
+
+loop-less : tie.Need-loop-less Inv-loop μ-loop
+loop-less c =
+    let turn = c .before .before .before .before .before in
+    each-falls (turn .before .loop .rest) (turn .loop-test .taken) (turn .before .loop .inv .0) (c .before .without .ensures)
+
+loop-again : tie.Need-loop-again Inv-loop μ-loop
+unfolding is-below
+loop-again c =
+    let turn = c .before .before .before .before .before in
+    let at = turn .before in
+    let args = at .before .before .args in (
+      c .lowest2 .ensures,
+      each-turn
+          64
+          (joined (is-below (args .t1) (args .bound)))
+          (at .loop .rest)
+          (at .loop .gone)
+          (omega arith)
+          (turn .loop-test .taken)
+          (at .loop .inv .0)
+          (c .before .before .with-if .ensures)
+          (c .before .without .ensures)
+          (at .loop .inv .1),
+    )
+
+returns : tie.Need-returns Inv-loop μ-loop
+returns c =
+    each-done 64 _ (c .before .loop .rest) (c .loop-test .left) (c .before .loop .inv .0) (c .before .loop .inv .1)
+
+pub below-spec : {M : Type 1} → statement M
+below-spec =
+    tie.close
+    (tie.spec
+    Inv-loop
+    μ-loop
+    lowest-requires
+    loop-holds
+    cast-item
+    mul-item
+    array-copy-out-item
+    with-if-requires
+    without-requires
+    lowest-requires-2
+    loop-less
+    loop-again
+    returns)

@@ -1,0 +1,63 @@
+-- Document 01, "Sweeps" and the rows that a detach or an end frees. Assumes nothing.
+use mathlib.Core.Bool.{Bool, cond, _&&_}
+use mathlib.Core.List.{List, [], _∷_, _++_}
+use Prim.Native.Nat.{ℕ, zero, suc}
+use lib.Dec.{leb, ltb}
+use lib.ListN.{drop, getD, length}
+use Rattle.words.specs.Places.{wordOf}
+use Rattle.words.specs.Words.{count, has}
+use Rattle.rows.specs.declared.Connection.{Connection}
+use Rattle.rows.specs.declared.Item.{Item}
+use Rattle.rows.specs.declared.Found.{Found}
+use Rattle.rows.specs.Numbers.{noConnection, noItem}
+use Rattle.rows.specs.Facts.{cleared, raised}
+use Rattle.rows.specs.Choices.{before, ticketOf, leftOver}
+use Rattle.tables.specs.Tables.{Table, connectionAt, itemAt, isPresent, isInput, owns, connectionPlaces, itemPlaces}
+use Rattle.tables.specs.Search.{chosen}
+
+-- the rows of a table of n places, by a rule for each place
+unfoldable pub rowsOf : {A : Type 0} → (ℕ → A) → ℕ → List A
+rowsOf rule zero = []
+rowsOf rule (suc n) = rule 0 ∷ rowsOf (λ i. rule (suc i)) n
+
+-- "Every present item with a smaller timestamp leaves the desk."
+unfoldable pub leaves : Table Item → ℕ → ℕ → Bool
+leaves items bound p = isPresent items p && ltb (itemAt items p .timestamp) bound
+
+unfoldable pub leaving : Table Item → ℕ → ℕ
+leaving items bound = wordOf (leaves items bound) itemPlaces
+
+-- of the items in some places, the first "by channel number, then timestamp"
+unfoldable pub firstOf : List Item → ℕ → Found
+firstOf rows places = chosen rows before (has places)
+
+-- the tickets of n items in some places, "by channel number, then timestamp"
+unfoldable pub inOrder : List Item → ℕ → ℕ → List ℕ
+inOrder rows zero places = []
+inOrder rows (suc n) places = ticketOf (firstOf rows places) ∷ inOrder rows n (leftOver places (firstOf rows places))
+
+-- "Tickets go to the front of the slice by channel number, then timestamp; the rest of the slice is untouched." A shorter slice is left as it was.
+unfoldable pub handedBack : List Item → ℕ → List ℕ → List ℕ
+handedBack rows gone slice =
+    cond (leb (count gone) (length slice)) (inOrder rows (count gone) gone ++ drop (count gone) slice) slice
+
+-- the places of the items that left hold zeros
+unfoldable pub sweptItems : List Item → ℕ → List Item
+sweptItems rows gone = rowsOf (λ p. cond (has gone p) noItem (getD rows p noItem)) itemPlaces
+
+-- "When an item leaves the desk, both are cleared for its place on every connection."
+-- "On every input connection the mark then becomes the larger of itself and the bound."
+abbrev pub sweptConnection : Bool → ℕ → ℕ → Connection → Connection
+sweptConnection reads bound gone connection = cond reads (raised (cleared connection gone) bound) (cleared connection gone)
+
+unfoldable pub sweptConnections : Table Connection → ℕ → ℕ → List Connection
+sweptConnections connections bound gone =
+    rowsOf (λ k. sweptConnection (isInput connections k) bound gone (connectionAt connections k)) connectionPlaces
+
+-- the places of a thread's connections
+unfoldable pub ownedBy : Table Connection → ℕ → ℕ
+ownedBy connections t = wordOf (owns connections t) connectionPlaces
+
+-- freed places hold zeros
+unfoldable pub freedConnections : List Connection → ℕ → List Connection
+freedConnections rows gone = rowsOf (λ k. cond (has gone k) noConnection (getD rows k noConnection)) connectionPlaces

@@ -1,0 +1,2 @@
+-- Document 01 of what leaves the desk.
+pub mod Leaving

@@ -1,0 +1,46 @@
+-- `rows::Connection::state_of` meets its contract. Assumes nothing.
+-- Below, `inside` is where the timestamp is at or above the mark and the place is one of the 64, and `kept` where it was not consumed by name either.
+use mathlib.Core.Path.{sym, _∙_}
+use borrow.Author.Needs.{needs}
+use borrow.Author.Tests.{lt-ltb, le-ltb, le-leb, lt-leb}
+use Rattle.rows.specs.States.{stateOf}
+use Rattle.rows.proofs.Connection.state_of.Statement.{statement}
+use Rattle.rows.proofs.Connection.state_of.Tie as tie
+
+returns : tie.Need-returns
+unfolding stateOf
+returns c = simp (lt-ltb _ _ (c .if1 .taken))
+
+returns-2 : tie.Need-returns-2
+unfolding stateOf
+returns-2 c = simp (le-ltb _ _ (c .before .if1 .left), le-leb _ _ (c .if2 .taken))
+
+has-requires : tie.Need-has-requires
+has-requires c κs = search needs
+
+returns-3 : tie.Need-returns-3
+unfolding stateOf
+returns-3 c =
+    let inside = c .before .before in
+    simp (le-ltb _ _ (inside .before .if1 .left), lt-leb _ _ (inside .if2 .left), sym (c .before .has .ensures) ∙ c .if3 .taken)
+
+has-requires-2 : tie.Need-has-requires-2
+has-requires-2 c κs = search needs
+
+returns-4 : tie.Need-returns-4
+unfolding stateOf
+returns-4 c =
+    let kept = c .before .before in
+    let inside = kept .before .before in
+    simp (le-ltb _ _ (inside .before .if1 .left), lt-leb _ _ (inside .if2 .left), sym (kept .before .has .ensures) ∙ kept .if3 .left, sym (c .before .has2 .ensures) ∙ c .if4 .taken)
+
+returns-5 : tie.Need-returns-5
+unfolding stateOf
+returns-5 c =
+    let kept = c .before .before in
+    let inside = kept .before .before in
+    simp (le-ltb _ _ (inside .before .if1 .left), lt-leb _ _ (inside .if2 .left), sym (kept .before .has .ensures) ∙ kept .if3 .left, sym (c .before .has2 .ensures) ∙ c .if4 .left)
+
+pub state-of-spec : {M : Type 1} → statement M
+state-of-spec =
+    tie.close (tie.spec returns returns-2 has-requires returns-3 has-requires-2 returns-4 returns-5)

@@ -1,0 +1,126 @@
+-- The laws of one row: of yes and no, of a chain of checks, of the four states, of answers and of times. Assumes nothing.
+use mathlib.Core.Path.{_≡_, refl, sym, _∙_, ap}
+use mathlib.Core.Bool.{Bool, true, false, cond, not, _&&_, true≢false, false≢true}
+pub use mathlib.Core.Bool.{and-assoc, and-comm}
+use mathlib.Core.List.{List, [], _∷_}
+use Prim.Native.Nat.{ℕ, _<_, min}
+use lib.Dec.{eqb, leb, ltb}
+use borrow.Author.Tests.{ltb-true, ltb-false, le-leb, lt-leb, eqb-false}
+use Rattle.rows.specs.declared.Connection.{Connection}
+use Rattle.rows.specs.declared.State.the-variants.{Consumed}
+use Rattle.rows.specs.States.{byName, stateOf, isOpen, isUnseen, isPending}
+use Rattle.rows.specs.Answers.{Check, refusing, refusal, answer, answered}
+use Rattle.rows.specs.Times.{lessIf}
+use Rattle.words.specs.Words.{has}
+
+-- ---- yes and no
+
+pub true-not-false : {b : Bool} → b ≡ true → b ≡ false → ⊥
+true-not-false holds fails = true≢false (sym holds ∙ fails)
+
+pub and-left : (a b : Bool) → (a && b) ≡ true → a ≡ true
+and-left true b both = refl
+and-left false b both = both
+
+pub and-right : (a b : Bool) → (a && b) ≡ true → b ≡ true
+and-right true b both = both
+and-right false b both = absurd (false≢true both)
+
+pub and-both : {a b : Bool} → a ≡ true → b ≡ true → (a && b) ≡ true
+and-both {a} {b} left right = ap (λ (x : Bool). x && b) left ∙ right
+
+pub bool-cases : {P : Type 0} (b : Bool) → (b ≡ true → P) → (b ≡ false → P) → P
+bool-cases true if-true if-false = if-true refl
+bool-cases false if-true if-false = if-false refl
+
+pub cond-same : {A : Type 0} (b : Bool) (x : A) → cond b x x ≡ x
+cond-same true x = refl
+cond-same false x = refl
+
+-- ---- a chain of checks
+
+-- every check holds
+abbrev pub Pass : List Check → Type 0
+Pass [] = Unit {0}
+Pass (c ∷ checks) = (c .holds ≡ true) × Pass checks
+
+-- no check refuses with 0, which would look accepted
+abbrev pub Codes : List Check → Type 0
+Codes [] = Unit {0}
+Codes (c ∷ checks) = (eqb (c .code) 0 ≡ false) × Codes checks
+
+first-held : (holds : Bool) (code rest : ℕ) → eqb code 0 ≡ false → refusing holds code rest ≡ 0 → (holds ≡ true) × (rest ≡ 0)
+first-held true code rest coded accepted = (refl, accepted)
+first-held false code rest coded accepted = absurd (eqb-false code 0 coded accepted)
+
+pub passed : (checks : List Check) → Codes checks → refusal checks ≡ 0 → Pass checks
+unfolding refusal
+passed [] codes accepted = tt
+passed (c ∷ checks) codes accepted =
+    let first = first-held (c .holds) (c .code) (refusal checks) (codes .0) accepted in
+    (first .0, passed checks (codes .1) (first .1))
+
+pub pass-refusal : (checks : List Check) → Pass checks → refusal checks ≡ 0
+unfolding refusal
+pass-refusal [] pass = refl
+pass-refusal (c ∷ checks) pass = rw (pass .0) (pass-refusal checks (pass .1))
+
+-- ---- the four states
+
+-- of a timestamp whose item is present
+pub state-present : (c : Connection) (s p : ℕ) → p < 64 → stateOf c s p ≡ cond (leb (c .mark) s) (byName (has (c .opened) p) (has (c .consumed) p)) Consumed
+unfolding stateOf
+state-present c s p inside =
+    bool-cases (ltb s (c .mark))
+    (λ below. simp (below, lt-leb (c .mark) s (ltb-true s (c .mark) below)))
+    (λ above. simp (above, lt-leb 64 p inside, le-leb (c .mark) s (ltb-false s (c .mark) above)))
+
+open-by : (above opened consumed : Bool) → isOpen (cond above (byName opened consumed) Consumed) ≡ (above && (opened && not consumed))
+open-by false opened consumed = refl
+open-by true true true = refl
+open-by true true false = refl
+open-by true false true = refl
+open-by true false false = refl
+
+unseen-by : (above opened consumed : Bool) → isUnseen (cond above (byName opened consumed) Consumed) ≡ (above && (not opened && not consumed))
+unseen-by false opened consumed = refl
+unseen-by true true true = refl
+unseen-by true true false = refl
+unseen-by true false true = refl
+unseen-by true false false = refl
+
+pending-by : (above opened consumed : Bool) → isPending (cond above (byName opened consumed) Consumed) ≡ (above && not consumed)
+pending-by false opened consumed = refl
+pending-by true opened true = refl
+pending-by true true false = refl
+pending-by true false false = refl
+
+module _ (c : Connection) (s p : ℕ) (inside : p < 64) where
+  pub open-is : isOpen (stateOf c s p) ≡ (leb (c .mark) s && (has (c .opened) p && not (has (c .consumed) p)))
+  open-is = ap isOpen (state-present c s p inside) ∙ open-by (leb (c .mark) s) (has (c .opened) p) (has (c .consumed) p)
+
+  pub unseen-is : isUnseen (stateOf c s p) ≡ (leb (c .mark) s && (not (has (c .opened) p) && not (has (c .consumed) p)))
+  unseen-is = ap isUnseen (state-present c s p inside) ∙ unseen-by (leb (c .mark) s) (has (c .opened) p) (has (c .consumed) p)
+
+  pub pending-is : isPending (stateOf c s p) ≡ (leb (c .mark) s && not (has (c .consumed) p))
+  pending-is = ap isPending (state-present c s p inside) ∙ pending-by (leb (c .mark) s) (has (c .opened) p) (has (c .consumed) p)
+
+-- ---- answers
+
+pub answered-zero : (value time : ℕ) → answered 0 value time ≡ answer 0 value time
+unfolding answered
+answered-zero value time = refl
+
+pub answered-none : (code : ℕ) → eqb code 12 ≡ false → (value time : ℕ) → eqb code 0 ≡ false → answered code value time ≡ answer code 0 0
+unfolding answered
+answered-none code not-short value time refused = simp (refused, not-short)
+
+-- ---- times
+
+pub less-if-true : {counts : Bool} → counts ≡ true → (time least : ℕ) → lessIf counts time least ≡ min time least
+unfolding lessIf
+less-if-true counted time least = rw counted
+
+pub less-if-false : {counts : Bool} → counts ≡ false → (time least : ℕ) → lessIf counts time least ≡ least
+unfolding lessIf
+less-if-false passed-over time least = rw passed-over

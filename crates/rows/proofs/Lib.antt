@@ -1,0 +1,2 @@
+-- The laws of one row, for the crates above.
+pub mod Laws

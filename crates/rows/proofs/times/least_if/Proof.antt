@@ -1,0 +1,19 @@
+-- `rows::times::least_if` meets its contract. Assumes nothing.
+use borrow.Author.Needs.{needs}
+use Rattle.rows.specs.Times.{lessIf}
+use Rattle.rows.proofs.times.least_if.Statement.{statement}
+use Rattle.rows.proofs.times.least_if.Tie as tie
+
+smaller-requires : tie.Need-smaller-requires
+smaller-requires c κs = search needs
+
+returns : tie.Need-returns
+unfolding lessIf
+returns c = rw (c .before .if1 .taken) (c .smaller .ensures)
+
+returns-2 : tie.Need-returns-2
+unfolding lessIf
+returns-2 c = rw (c .if1 .left)
+
+pub least-if-spec : {M : Type 1} → statement M
+least-if-spec = tie.close (tie.spec smaller-requires returns returns-2)

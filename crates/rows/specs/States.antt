@@ -1,0 +1,53 @@
+-- Document 01, "What a connection has seen": the four states of a timestamp on an input connection. Assumes nothing.
+use mathlib.Core.Bool.{Bool, true, false, cond, _&&_}
+use Prim.Native.Nat.{ℕ}
+use lib.Dec.{eqb, leb, ltb}
+use Rattle.rows.specs.declared.Connection.{Connection}
+use Rattle.rows.specs.declared.Item.{Item}
+use Rattle.rows.specs.declared.State.{State}
+use Rattle.rows.specs.declared.State.the-variants.{Absent, Unseen, Open, Consumed}
+use Rattle.words.specs.Words.{has}
+
+-- "otherwise UNSEEN, OPEN or CONSUMED, as it was got and consumed by name": by the two facts open and consumed
+abbrev pub byName : Bool → Bool → State
+byName opened true = Consumed
+byName true false = Open
+byName false false = Unseen
+
+-- "For a timestamp on it: CONSUMED if below the mark; otherwise ABSENT if the channel has no such item; otherwise UNSEEN, OPEN or CONSUMED,
+-- as it was got and consumed by name." The place is that of the channel's item with the timestamp; 64 says that the channel has none.
+unfoldable pub stateOf : Connection → ℕ → ℕ → State
+stateOf connection timestamp place =
+    cond (ltb timestamp (connection .mark)) Consumed
+    (cond (leb 64 place) Absent
+    (byName (has (connection .opened) place) (has (connection .consumed) place)))
+
+-- "A state stands in the value, as 0 ABSENT, 1 UNSEEN, 2 OPEN, 3 CONSUMED"
+abbrev pub stateNumber : State → ℕ
+stateNumber Absent = 0
+stateNumber Unseen = 1
+stateNumber Open = 2
+stateNumber Consumed = 3
+
+abbrev pub isUnseen : State → Bool
+isUnseen Absent = false
+isUnseen Unseen = true
+isUnseen Open = false
+isUnseen Consumed = false
+
+abbrev pub isOpen : State → Bool
+isOpen Absent = false
+isOpen Unseen = false
+isOpen Open = true
+isOpen Consumed = false
+
+-- "UNSEEN or OPEN"
+abbrev pub isPending : State → Bool
+isPending Absent = false
+isPending Unseen = true
+isPending Open = true
+isPending Consumed = false
+
+-- the item lies in the connection's channel and not below its mark
+unfoldable pub lookedAt : Connection → Item → Bool
+lookedAt connection item = eqb (item .channel) (connection .channel) && leb (connection .mark) (item .timestamp)

@@ -1,0 +1,190 @@
+-- The parts of visible time and of the two bounds, as loops over the places of a word. Assumes nothing.
+use mathlib.Core.Path.{_≡_, refl, sym, ap, _∙_}
+use mathlib.Core.Bool.{Bool, true, false, cond, not, _&&_, and-false}
+use Prim.Native.Nat.{ℕ, _<_, min}
+use native.Mathlib.Nat.{min-eq-right}
+use lib.Dec.{eqb, leb, ltb}
+use borrow.Author.Tests.{ltb-false}
+use Rattle.words.specs.Places.{each}
+use Rattle.words.specs.Words.{has, both, less}
+use Rattle.words.proofs.Laws.{both-at, less-at}
+use Rattle.words.proofs.Walk.{each-and, each-ext}
+use Rattle.rows.specs.declared.Thread.{Thread}
+use Rattle.rows.specs.declared.Connection.{Connection}
+use Rattle.rows.specs.declared.Item.{Item}
+use Rattle.rows.specs.Numbers.{never, input}
+use Rattle.rows.specs.States.{isPending, lookedAt, stateOf}
+use Rattle.rows.specs.Times.{lessIf}
+use Rattle.rows.proofs.Laws.{and-assoc, and-comm, bool-cases, open-is}
+use Rattle.tables.specs.Tables.{Table, threadAt, connectionAt, itemAt, isInput, readsFor}
+use Rattle.tables.specs.Seen.{lies, isOpenAt, isPendingAt}
+use Rattle.tables.specs.Times.{smallest, some, leastTime, openTime, leastOpen, leastKeep, isAwaited, leastAwaited}
+use Rattle.tables.proofs.Used.{used-below}
+
+-- ---- virtual times
+
+abbrev pub timeStep : Table Thread → ℕ → ℕ → ℕ
+timeStep threads t least = min (threadAt threads t .time) least
+
+pub least-time-is : (threads : Table Thread) → leastTime threads ≡ each 16 (has (threads .used)) (timeStep threads) never
+unfolding leastTime smallest
+least-time-is threads = each-ext 16 _ _ never _ _ (λ t inside. used-below (threads .used) inside) (λ t least inside. refl)
+
+-- ---- keep times
+
+abbrev pub keepStep : Table Connection → ℕ → ℕ → ℕ
+keepStep connections k least = lessIf (eqb (connectionAt connections k .direction) input) (connectionAt connections k .mark) least
+
+pub least-keep-is : (connections : Table Connection) → leastKeep connections ≡ each 32 (has (connections .used)) (keepStep connections) never
+unfolding leastKeep smallest isInput lessIf
+least-keep-is connections =
+    each-and 32 _ never _ _ _ (λ k inside. ap (λ (t : Bool). t && eqb (connectionAt connections k .direction) input) (used-below (connections .used) inside))
+
+-- ---- a loop within a loop
+
+-- the word of the inner loop is empty where the inner loop is not wanted
+each-where : {B : Type 0} (n : ℕ) (f : ℕ → B → B) (b : B) (w : ℕ) {wanted : Bool} {v : ℕ} {x : B}
+    → v ≡ cond wanted w 0
+    → x ≡ each n (has v) f b
+    → wanted ≡ true
+    → x ≡ each n (has w) f b
+each-where n f b w {wanted} {v} {x} word result holds =
+    result ∙ ap (λ (u : ℕ). each n (has u) f b) (word ∙ ap (λ (t : Bool). cond t w 0) holds)
+
+-- a step whose test was made beforehand
+pub less-if-by : (time least : ℕ) {counts holds : Bool} {x : ℕ} → x ≡ lessIf counts time least → counts ≡ holds → x ≡ lessIf holds time least
+less-if-by time least step test = step ∙ ap (λ (t : Bool). lessIf t time least) test
+
+-- what does not count is not looked at
+less-if-time : (counts : Bool) {x y : ℕ} (least : ℕ) → (counts ≡ true → x ≡ y) → lessIf counts x least ≡ lessIf counts y least
+unfolding lessIf
+less-if-time true least same = ap (λ (x : ℕ). min x least) (same refl)
+less-if-time false least same = refl
+
+-- a time that is not below the least does not lower it
+less-if-counts : {a b : Bool} (time least : ℕ) → (ltb time least ≡ true → a ≡ b) → lessIf a time least ≡ lessIf b time least
+unfolding lessIf
+less-if-counts {a} {b} time least same =
+    bool-cases
+    (ltb time least)
+    (λ below. ap (λ (t : Bool). lessIf t time least) (same below))
+    (λ above. not-lower a above ∙ sym (not-lower b above))
+  where
+    not-lower : (t : Bool) → ltb time least ≡ false → lessIf t time least ≡ least
+    not-lower true above = min-eq-right (ltb-false time least above)
+    not-lower false above = refl
+
+-- ---- OPEN timestamps
+
+abbrev pub openPlaces : Table Item → Connection → ℕ
+openPlaces items connection = both (connection .opened) (less (items .used) (connection .consumed))
+
+abbrev pub openStep : Table Item → Connection → ℕ → ℕ → ℕ
+openStep items connection p least = lessIf (lookedAt connection (itemAt items p)) (itemAt items p .timestamp) least
+
+open-split : (present lies above opened consumed : Bool)
+    → ((present && lies) && (above && (opened && not consumed))) ≡ ((opened && (present && not consumed)) && (lies && above))
+open-split present lies above false consumed = ap (λ (t : Bool). (present && lies) && t) (and-false above) ∙ and-false (present && lies)
+open-split false lies above true consumed = refl
+open-split true lies above true consumed = sym (and-assoc lies above (not consumed)) ∙ and-comm (lies && above) (not consumed)
+
+-- what the code tests: the place is among those that can be OPEN, and its item is looked at
+open-at : (items : Table Item) (connection : Connection) (p : ℕ) → p < 64
+    → isOpenAt items connection p ≡ (has (openPlaces items connection) p && lookedAt connection (itemAt items p))
+unfolding isOpenAt lies lookedAt
+open-at items connection p inside =
+    let item : Item = itemAt items p in
+    let present : Bool = has (items .used) p in
+    let beside : Bool = eqb (item .channel) (connection .channel) in
+    let above : Bool = leb (connection .mark) (item .timestamp) in
+    let opened : Bool = has (connection .opened) p in
+    let unconsumed = less-at (items .used) (connection .consumed) inside in
+    ap (λ (t : Bool). (present && beside) && t) (open-is connection (item .timestamp) p inside)
+    ∙ open-split present beside above opened (has (connection .consumed) p)
+    ∙ sym (ap (λ (t : Bool). t && (beside && above)) (both-at (connection .opened) _ inside ∙ ap (λ (t : Bool). opened && t) unconsumed))
+
+pub open-time-is : (items : Table Item) (connection : Connection)
+    → openTime items connection ≡ each 64 (has (openPlaces items connection)) (openStep items connection) never
+unfolding openTime smallest lessIf
+open-time-is items connection = each-and 64 _ never _ _ _ (open-at items connection)
+
+abbrev pub readsRow : Connection → ℕ → Bool
+readsRow connection t = eqb (connection .direction) input && eqb (connection .thread) t
+
+abbrev pub readStep : Table Connection → Table Item → ℕ → ℕ → ℕ → ℕ
+readStep connections items t k least = lessIf (readsRow (connectionAt connections k) t) (openTime items (connectionAt connections k)) least
+
+pub least-open-is : (connections : Table Connection) (items : Table Item) (t : ℕ)
+    → leastOpen connections items t ≡ each 32 (has (connections .used)) (readStep connections items t) never
+unfolding leastOpen smallest readsFor isInput lessIf
+least-open-is connections items t =
+    each-and 32 _ never _ _ _
+    (λ k inside. let connection = connectionAt connections k in
+    let reads : Bool = eqb (connection .direction) input in
+    let its : Bool = eqb (connection .thread) t in
+    ap (λ (u : Bool). (u && reads) && its) (used-below (connections .used) inside) ∙ and-assoc (has (connections .used) k) reads its)
+
+-- one turn: the inner loop goes over the places that can be OPEN, or over none
+pub open-turn : (items : Table Item) (connection : Connection) (t least : ℕ) {reads : Bool} {left opened x : ℕ}
+    → reads ≡ readsRow connection t
+    → left ≡ cond reads (openPlaces items connection) 0
+    → opened ≡ each 64 (has left) (openStep items connection) never
+    → x ≡ lessIf reads opened least
+    → x ≡ lessIf (readsRow connection t) (openTime items connection) least
+open-turn items connection t least {reads} read word inner outer =
+    outer
+    ∙ less-if-time reads least
+    (λ holds. each-where 64 (openStep items connection) never (openPlaces items connection) word inner holds ∙ sym (open-time-is items connection))
+    ∙ ap (λ (b : Bool). lessIf b (openTime items connection) least) read
+
+-- ---- UNSEEN and OPEN timestamps
+
+-- the item in the place is UNSEEN or OPEN on the connection, an input
+abbrev pub awaits : Connection → Item → ℕ → Bool
+awaits connection item p =
+    eqb (connection .direction) input && (eqb (item .channel) (connection .channel) && isPending (stateOf connection (item .timestamp) p))
+
+abbrev pub awaitStep : Table Connection → Item → ℕ → ℕ → Bool → Bool
+awaitStep connections item p k found = cond (awaits (connectionAt connections k) item p) true found
+
+-- the item in the place is UNSEEN or OPEN on some input connection
+abbrev pub awaitedBy : Table Connection → Item → ℕ → Bool
+awaitedBy connections item p = each 32 (has (connections .used)) (awaitStep connections item p) false
+
+-- what the code tests: that the item is present is known in its loop already
+is-awaited : (connections : Table Connection) (items : Table Item) (p : ℕ)
+    → isAwaited connections items p ≡ (has (items .used) p && awaitedBy connections (itemAt items p) p)
+unfolding isAwaited some isPendingAt lies isInput
+is-awaited connections items p = go (has (items .used) p)
+  where
+    beside : ℕ → Bool
+    beside k = eqb (itemAt items p .channel) (connectionAt connections k .channel)
+
+    pending : ℕ → Bool
+    pending k = isPending (stateOf (connectionAt connections k) (itemAt items p .timestamp) p)
+
+    go : (present : Bool)
+        → (present && some 32 (λ k. isInput connections k && ((present && beside k) && pending k))) ≡ (present && awaitedBy connections (itemAt items p) p)
+    go true =
+        each-and 32 _ false _ _ _
+        (λ k inside. let reads : Bool = eqb (connectionAt connections k .direction) input in
+        ap (λ (t : Bool). (t && reads) && (beside k && pending k)) (used-below (connections .used) inside)
+        ∙ and-assoc (has (connections .used) k) reads (beside k && pending k))
+    go false = refl
+
+abbrev pub leastStep : Table Connection → Table Item → ℕ → ℕ → ℕ
+leastStep connections items p least = lessIf (awaitedBy connections (itemAt items p) p) (itemAt items p .timestamp) least
+
+pub least-awaited-is : (connections : Table Connection) (items : Table Item)
+    → leastAwaited connections items ≡ each 64 (has (items .used)) (leastStep connections items) never
+unfolding leastAwaited smallest lessIf
+least-awaited-is connections items = each-and 64 _ never _ _ _ (λ p inside. is-awaited connections items p)
+
+-- one turn: the inner loop goes over the connections, or over none where the timestamp could not lower the least
+pub await-turn : (connections : Table Connection) (item : Item) (p least : ℕ) {left x : ℕ} {awaited : Bool}
+    → left ≡ cond (ltb (item .timestamp) least) (connections .used) 0
+    → awaited ≡ each 32 (has left) (awaitStep connections item p) false
+    → x ≡ lessIf awaited (item .timestamp) least
+    → x ≡ lessIf (awaitedBy connections item p) (item .timestamp) least
+await-turn connections item p least word inner outer =
+    outer ∙ less-if-counts (item .timestamp) least (each-where 32 (awaitStep connections item p) false (connections .used) word inner)

@@ -1,0 +1,4 @@
+-- The laws of the tables.
+pub mod Least
+pub mod Lowest
+pub mod Used

@@ -1,0 +1,112 @@
+-- `tables::search::find` meets its contract. Assumes nothing.
+use mathlib.Core.Path.{_≡_, refl}
+use mathlib.Core.Logic.{⊎-elim}
+use mathlib.Core.Bool.{Bool, _&&_}
+use mathlib.Core.List.{List}
+use Prim.Native.Nat.{ℕ}
+use borrow.Author.Needs.{needs}
+use borrow.Author.Tests.{eq-eqb, ne-eqb}
+use lib.Dec.{eqb}
+use lib.ListN.{getD}
+use Rattle.words.specs.Words.{count, lowest}
+use Rattle.words.proofs.Walk.{each-falls}
+use Rattle.rows.specs.declared.Item.{Item}
+use Rattle.rows.specs.Numbers.{noItem}
+use Rattle.rows.proofs.Laws.{and-both}
+use Rattle.tables.specs.Tables.{table}
+use Rattle.tables.specs.Seen.{isItem, placeOf}
+use Rattle.tables.proofs.Lowest.{lowestIn, search-here, search-turn, search-done}
+use Rattle.tables.proofs.search.find.Statement.{statement}
+use Rattle.tables.proofs.search.find.Tie as tie
+
+-- what the loop tests in a place
+is-it : List Item → ℕ → ℕ → ℕ → Bool
+is-it items channel timestamp p =
+    eqb (getD items p noItem .channel) channel && eqb (getD items p noItem .timestamp) timestamp
+
+abbrev Inv-loop : tie.InvT-loop
+Inv-loop present channel timestamp items rest₀ p₀ rest p =
+    (p ≡ lowest rest) × (lowestIn rest (is-it items channel timestamp) ≡ placeOf (table present items) channel timestamp)
+
+abbrev μ-loop : tie.MeasureT-loop
+μ-loop present channel timestamp items rest₀ p₀ rest p = count rest
+
+lowest-requires : tie.Need-lowest-requires Inv-loop μ-loop
+lowest-requires c κs = search needs
+
+loop-holds : tie.Need-loop-holds Inv-loop μ-loop
+unfolding placeOf isItem is-it
+loop-holds c = (c .lowest .ensures, refl)
+
+cast-item : tie.Need-cast-item Inv-loop μ-loop
+cast-item c = search needs
+
+mul-item : tie.Need-mul-item Inv-loop μ-loop
+mul-item c = search needs
+
+array-copy-out-item : tie.Need-array-copy-out-item Inv-loop μ-loop
+array-copy-out-item c = search needs
+
+returns : tie.Need-returns Inv-loop μ-loop
+unfolding is-it
+returns c =
+    let same-channel = c .before .before in
+    let turn = same-channel .before .before .before in
+    let at = turn .before .loop in
+    search-here
+    _
+    (at .rest)
+    (turn .loop-test .taken)
+    (at .inv .0)
+    (and-both (eq-eqb _ _ (same-channel .if1 .taken)) (eq-eqb _ _ (c .if2 .taken)))
+    (at .inv .1)
+
+without-requires : tie.Need-without-requires Inv-loop μ-loop
+without-requires c κs = search needs
+
+lowest-requires-2 : tie.Need-lowest-requires-2 Inv-loop μ-loop
+lowest-requires-2 c κs = search needs
+
+loop-less : tie.Need-loop-less Inv-loop μ-loop
+loop-less c =
+    let turn = c .before .before .before .before .before in
+    each-falls (turn .before .loop .rest) (turn .loop-test .taken) (turn .before .loop .inv .0) (c .before .without .ensures)
+
+loop-again : tie.Need-loop-again Inv-loop μ-loop
+unfolding is-it
+loop-again c =
+    let at = c .before .before .before .before .before .before in
+    let args = at .before .before .args in (
+      c .lowest2 .ensures,
+      search-turn
+          (is-it (args .t1) (args .channel) (args .timestamp))
+          (at .loop .rest)
+          (⊎-elim
+          (λ other-time. simp (eq-eqb _ _ (other-time .0 .taken), ne-eqb _ _ (other-time .2 .left)))
+          (λ other-channel. simp (ne-eqb _ _ (other-channel .left)))
+          (c .before .before .if1 .came))
+          (c .before .without .ensures)
+          (at .loop .inv .1),
+    )
+
+returns-2 : tie.Need-returns-2 Inv-loop μ-loop
+returns-2 c =
+    search-done _ (c .before .loop .rest) (c .loop-test .left) (c .before .loop .inv .0) (c .before .loop .inv .1)
+
+pub find-spec : {M : Type 1} → statement M
+find-spec =
+    tie.close
+    (tie.spec
+    Inv-loop
+    μ-loop
+    lowest-requires
+    loop-holds
+    cast-item
+    mul-item
+    array-copy-out-item
+    returns
+    without-requires
+    lowest-requires-2
+    loop-less
+    loop-again
+    returns-2)

@@ -1,0 +1,157 @@
+-- `tables::search::seek` meets its contract. Assumes nothing.
+use mathlib.Core.Path.{_≡_, refl, sym, ap, _∙_}
+use mathlib.Core.Bool.{Bool, true, false, cond, not, _&&_, and-false}
+use mathlib.Core.List.{List}
+use Prim.Native.Nat.{ℕ, _<_}
+use borrow.Author.Needs.{needs}
+use native.Mathlib.Omega.{arith}
+use lib.Dec.{eqb, leb}
+use lib.ListN.{getD}
+use Rattle.words.specs.Places.{each}
+use Rattle.words.specs.Words.{has, less, count, lowest}
+use Rattle.words.proofs.Laws.{less-at}
+use Rattle.words.proofs.Walk.{each-and, each-turn, each-done, each-falls}
+use Rattle.rows.specs.declared.Connection.{Connection}
+use Rattle.rows.specs.declared.Item.{Item}
+use Rattle.rows.specs.declared.Found.{Found}
+use Rattle.rows.specs.declared.Found.the-variants.{Nothing}
+use Rattle.rows.specs.declared.Which.{Which}
+use Rattle.rows.specs.Choices.{preferred, sooner}
+use Rattle.rows.specs.Numbers.{noItem}
+use Rattle.rows.specs.States.{lookedAt}
+use Rattle.rows.proofs.Laws.{unseen-is}
+use Rattle.tables.specs.Tables.{table}
+use Rattle.tables.specs.Seen.{lies, isUnseenAt}
+use Rattle.tables.specs.Search.{chosen, isWanted, sought}
+use Rattle.tables.proofs.search.seek.Statement.{statement}
+use Rattle.tables.proofs.search.seek.Tie as tie
+
+-- the parts of "UNSEEN and wanted", in the order of the definition and in that of the code
+regroup : (used lying above unopened unconsumed wanted : Bool)
+    → (((used && lying) && (above && (unopened && unconsumed))) && wanted)
+    ≡ (((used && unopened) && unconsumed) && ((lying && above) && wanted))
+regroup false lying above unopened unconsumed wanted = refl
+regroup true false above unopened unconsumed wanted = sym (and-false (unopened && unconsumed))
+regroup true true false unopened unconsumed wanted = sym (and-false (unopened && unconsumed))
+regroup true true true unopened unconsumed wanted = refl
+
+-- the places that can be UNSEEN
+unseen : ℕ → Connection → ℕ
+unseen present connection = less (less present (connection .opened)) (connection .consumed)
+
+module _ (items : List Item) (connection : Connection) (which : Which) where
+  -- what is tried in a place that can be UNSEEN
+  tried-at : ℕ → Bool
+  tried-at p = lookedAt connection (getD items p noItem) && isWanted which (getD items p noItem)
+
+  -- one turn of the loop
+  step : ℕ → Found → Found
+  step p found = cond (tried-at p) (preferred (sooner which) found p (getD items p noItem)) found
+
+  counts : (present p : ℕ) → p < 64
+      → (isUnseenAt (table present items) connection p && isWanted which (getD items p noItem)) ≡ (has (unseen present connection) p && tried-at p)
+  unfolding isUnseenAt lies lookedAt unseen tried-at
+  counts present p inside =
+      let item = getD items p noItem in
+      let in-word = less-at (less present (connection .opened)) (connection .consumed) inside
+      ∙ ap (λ (b : Bool). b && not (has (connection .consumed) p)) (less-at present (connection .opened) inside) in
+      ap (λ (b : Bool). (lies (table present items) connection p && b) && isWanted which item) (unseen-is connection (item .timestamp) p inside)
+      ∙ regroup
+      (has present p)
+      (eqb (item .channel) (connection .channel))
+      (leb (connection .mark) (item .timestamp))
+      (not (has (connection .opened) p))
+      (not (has (connection .consumed) p))
+      (isWanted which item)
+      ∙ ap (λ (b : Bool). b && tried-at p) (sym in-word)
+
+  whole : (present : ℕ) → each 64 (has (unseen present connection)) step Nothing ≡ sought (table present items) connection which
+  unfolding sought chosen step
+  whole present = sym (each-and 64 _ Nothing _ (has (unseen present connection)) tried-at (counts present))
+
+abbrev Inv-loop : tie.InvT-loop
+Inv-loop present connection which items found₀ rest₀ p₀ found rest p =
+    (p ≡ lowest rest) × (each 64 (has rest) (step items connection which) found ≡ sought (table present items) connection which)
+
+abbrev μ-loop : tie.MeasureT-loop
+μ-loop present connection which items found₀ rest₀ p₀ found rest p = count rest
+
+unseen-places-requires : tie.Need-unseen-places-requires Inv-loop μ-loop
+unseen-places-requires c κs = search needs
+
+lowest-requires : tie.Need-lowest-requires Inv-loop μ-loop
+lowest-requires c κs = search needs
+
+loop-holds : tie.Need-loop-holds Inv-loop μ-loop
+unfolding unseen
+loop-holds c =
+    let args = c .before .before .args in
+    let turns = step (args .t1) (args .connection) (args .which) in
+    let started = ap (λ (w : ℕ). each 64 (has w) turns Nothing) (c .before .unseen-places .ensures) in
+    (c .lowest .ensures, started ∙ whole (args .t1) (args .connection) (args .which) (args .present))
+
+cast-item : tie.Need-cast-item Inv-loop μ-loop
+cast-item c = search needs
+
+mul-item : tie.Need-mul-item Inv-loop μ-loop
+mul-item c = search needs
+
+array-copy-out-item : tie.Need-array-copy-out-item Inv-loop μ-loop
+array-copy-out-item c = search needs
+
+tried-requires : tie.Need-tried-requires Inv-loop μ-loop
+tried-requires c κs = search needs
+
+without-requires : tie.Need-without-requires Inv-loop μ-loop
+without-requires c κs = search needs
+
+lowest-requires-2 : tie.Need-lowest-requires-2 Inv-loop μ-loop
+lowest-requires-2 c κs = search needs
+
+loop-less : tie.Need-loop-less Inv-loop μ-loop
+loop-less c =
+    let turn = c .before .before .before .before in
+    each-falls (turn .before .loop .rest) (turn .loop-test .taken) (turn .before .loop .inv .0) (c .before .without .ensures)
+
+loop-again : tie.Need-loop-again Inv-loop μ-loop
+unfolding step tried-at
+loop-again c =
+    let turn = c .before .before .before .before in
+    let at = turn .before in
+    let args = at .before .before .before .args in (
+      c .lowest2 .ensures,
+      each-turn
+          64
+          (step (args .t1) (args .connection) (args .which))
+          (at .loop .rest)
+          (at .loop .found)
+          (omega arith)
+          (turn .loop-test .taken)
+          (at .loop .inv .0)
+          (c .before .before .tried .ensures)
+          (c .before .without .ensures)
+          (at .loop .inv .1),
+    )
+
+returns : tie.Need-returns Inv-loop μ-loop
+returns c =
+    each-done 64 _ (c .before .loop .rest) (c .loop-test .left) (c .before .loop .inv .0) (c .before .loop .inv .1)
+
+pub seek-spec : {M : Type 1} → statement M
+seek-spec =
+    tie.close
+    (tie.spec
+    Inv-loop
+    μ-loop
+    unseen-places-requires
+    lowest-requires
+    loop-holds
+    cast-item
+    mul-item
+    array-copy-out-item
+    tried-requires
+    without-requires
+    lowest-requires-2
+    loop-less
+    loop-again
+    returns)

@@ -1,0 +1,160 @@
+-- What the machine's operations on a word compute to, in terms of places. Assumes nothing.
+use mathlib.Core.Path.{_≡_, refl, sym, ap, ap₂, _∙_}
+use mathlib.Core.Bool.{Bool, true, false, cond, not, _&&_, _||_}
+use Prim.Native.Nat.{ℕ, zero, suc, _-_, _*_, _/_, _%_, _^_, _≤_, _<_, min, max}
+use native.Mathlib.Nat.{le-of-suc-le-suc, not-suc-le-zero, mod-eq-of-lt, mod-lt, zero-lt-suc}
+use native.Mathlib.Omega.{arith}
+use lib.Dec.{eqb}
+use lib.Arith.{lt-one}
+use lib.Pow.{pow-pos, pow-lt, ones-sub-lt}
+use lib.Bits.{bitAnd, bitOr, and-step, or-step, and-shr, or-shr, and-lt, or-lt, and-mask}
+use lib.Count.{ones, ones-step, trailingZeros, under}
+use Rattle.words.specs.Places.{countOf, lowestOf}
+use Rattle.words.specs.Words.{has, with, without, both, less, lowest, lowestFree, count}
+use Rattle.words.proofs.Digits.{num-injective, has-first, has-next, has-none, has-top}
+use Rattle.words.proofs.Laws.{wordOf-is, count-ext, count-first, lowest-ext}
+
+-- ---- the places of what the machine computes
+
+and-digit : (d e : ℕ) → d < 2 → e < 2 → eqb (min d e) 1 ≡ (eqb d 1 && eqb e 1)
+and-digit zero zero l k = refl
+and-digit zero (suc zero) l k = refl
+and-digit (suc zero) zero l k = refl
+and-digit (suc zero) (suc zero) l k = refl
+and-digit (suc (suc d)) e l k = absurd (omega arith)
+and-digit zero (suc (suc e)) l k = absurd (omega arith)
+and-digit (suc zero) (suc (suc e)) l k = absurd (omega arith)
+
+or-digit : (d e : ℕ) → d < 2 → e < 2 → eqb (max d e) 1 ≡ (eqb d 1 || eqb e 1)
+or-digit zero zero l k = refl
+or-digit zero (suc zero) l k = refl
+or-digit (suc zero) zero l k = refl
+or-digit (suc zero) (suc zero) l k = refl
+or-digit (suc (suc d)) e l k = absurd (omega arith)
+or-digit zero (suc (suc e)) l k = absurd (omega arith)
+or-digit (suc zero) (suc (suc e)) l k = absurd (omega arith)
+
+pub has-and : (a b i : ℕ) → has (bitAnd a b) i ≡ (has a i && has b i)
+unfolding has
+has-and a b i =
+    let x = a / 2 ^ i in
+    let y = b / 2 ^ i in
+    let low : bitAnd x y % 2 ≡ min (x % 2) (y % 2) = omega (arith, and-step x y) in
+    ap (λ (n : ℕ). eqb n 1) (ap (λ (n : ℕ). n % 2) (and-shr a b i) ∙ low)
+    ∙ and-digit (x % 2) (y % 2) (mod-lt x (zero-lt-suc 1)) (mod-lt y (zero-lt-suc 1))
+
+pub has-or : (a b i : ℕ) → has (bitOr a b) i ≡ (has a i || has b i)
+unfolding has
+has-or a b i =
+    let x = a / 2 ^ i in
+    let y = b / 2 ^ i in
+    let low : bitOr x y % 2 ≡ max (x % 2) (y % 2) = omega (arith, or-step x y) in
+    ap (λ (n : ℕ). eqb n 1) (ap (λ (n : ℕ). n % 2) (or-shr a b i) ∙ low)
+    ∙ or-digit (x % 2) (y % 2) (mod-lt x (zero-lt-suc 1)) (mod-lt y (zero-lt-suc 1))
+
+-- `!w` in n digits
+pub has-not : (n w i : ℕ) → w < 2 ^ n → i < n → has ((2 ^ n - 1) - w) i ≡ not (has w i)
+has-not zero w i h l = absurd (not-suc-le-zero l)
+has-not (suc n) w zero h l =
+    num-injective (has ((2 ^ suc n - 1) - w) zero) (not (has w zero)) (has-first ((2 ^ suc n - 1) - w) ∙ go (has w zero) (has-first w))
+  where
+    go : (b : Bool) → cond b 1 0 ≡ w % 2 → ((2 ^ suc n - 1) - w) % 2 ≡ cond (not b) 1 0
+    go true e = omega arith
+    go false e = omega arith
+has-not (suc n) w (suc i) h l =
+    let high : ((2 ^ suc n - 1) - w) / 2 ≡ (2 ^ n - 1) - w / 2 = omega arith in
+    has-next ((2 ^ suc n - 1) - w) i
+    ∙ ap (λ (x : ℕ). has x i) high
+    ∙ has-not n (w / 2) i (omega arith) (le-of-suc-le-suc l)
+    ∙ ap not (sym (has-next w i))
+
+-- `1 << p` has the place p alone
+pub has-power : (p i : ℕ) → has (2 ^ p) i ≡ eqb i p
+has-power p i =
+    ap (λ (x : ℕ). has x i) (omega arith) ∙ has-top true 0 p i (pow-pos p) ∙ ap (cond (eqb i p) true) (has-none i) ∙ go (eqb i p)
+  where
+    go : (t : Bool) → cond t true false ≡ t
+    go true = refl
+    go false = refl
+
+pub shl-one : (p : ℕ) → p < 64 → (1 * 2 ^ p) % 2 ^ 64 ≡ 2 ^ p
+shl-one p l = ap (λ (x : ℕ). x % 2 ^ 64) (omega arith) ∙ mod-eq-of-lt (pow-lt l)
+
+-- ---- what each function computes
+
+-- `(w >> p) & 1 == 1`
+pub has-is : (w p : ℕ) → eqb (bitAnd (w / 2 ^ p) 1) 1 ≡ has w p
+unfolding has
+has-is w p = ap (λ (x : ℕ). eqb x 1) (and-mask (w / 2 ^ p) 1)
+
+-- `w | (1 << p)`
+pub with-is : (w p : ℕ) → w < 2 ^ 64 → p < 64 → bitOr w ((1 * 2 ^ p) % 2 ^ 64) ≡ with w p
+unfolding with
+with-is w p h l =
+    ap (bitOr w) (shl-one p l)
+    ∙ wordOf-is
+    (λ i. has w i || eqb i p)
+    (bitOr w (2 ^ p))
+    (or-lt 64 w (2 ^ p) h (pow-lt l))
+    (λ i k. has-or w (2 ^ p) i ∙ ap (λ (t : Bool). has w i || t) (has-power p i))
+
+-- `w & !(1 << p)`
+pub without-is : (w p : ℕ) → w < 2 ^ 64 → p < 64 → bitAnd w ((2 ^ 64 - 1) - (1 * 2 ^ p) % 2 ^ 64) ≡ without w p
+unfolding without
+without-is w p h l =
+    ap (λ (x : ℕ). bitAnd w ((2 ^ 64 - 1) - x)) (shl-one p l)
+    ∙ wordOf-is
+    (λ i. has w i && not (eqb i p))
+    (bitAnd w ((2 ^ 64 - 1) - 2 ^ p))
+    (and-lt 64 w ((2 ^ 64 - 1) - 2 ^ p) h (ones-sub-lt 64 (2 ^ p)))
+    (λ i k. has-and w ((2 ^ 64 - 1) - 2 ^ p) i ∙ ap (λ (t : Bool). has w i && t) (has-not 64 (2 ^ p) i (pow-lt l) k ∙ ap not (has-power p i)))
+
+-- `a & b`
+pub both-is : (a b : ℕ) → a < 2 ^ 64 → b < 2 ^ 64 → bitAnd a b ≡ both a b
+unfolding both
+both-is a b h k = wordOf-is (λ i. has a i && has b i) (bitAnd a b) (and-lt 64 a b h k) (λ i l. has-and a b i)
+
+-- `a & !b`
+pub less-is : (a b : ℕ) → a < 2 ^ 64 → b < 2 ^ 64 → bitAnd a ((2 ^ 64 - 1) - b) ≡ less a b
+unfolding less
+less-is a b h k =
+    wordOf-is
+    (λ i. has a i && not (has b i))
+    (bitAnd a ((2 ^ 64 - 1) - b))
+    (and-lt 64 a ((2 ^ 64 - 1) - b) h (ones-sub-lt 64 b))
+    (λ i l. has-and a ((2 ^ 64 - 1) - b) i ∙ ap (λ (t : Bool). has a i && t) (has-not 64 b i k l))
+
+-- the digits of a number below 2 ^ n, counted
+ones-of : (n w : ℕ) → w < 2 ^ n → ones w ≡ countOf (has w) n
+unfolding ones countOf
+ones-of zero w h = ap ones (lt-one h)
+ones-of (suc n) w h =
+    let rest : countOf (λ i. has w (suc i)) n ≡ countOf (has (w / 2)) n = count-ext _ _ n (λ i l. has-next w i) in
+    omega (arith, ones-step w, has-first w, count-first (has w) n, ones-of n (w / 2) (omega arith))
+
+-- `count_ones(w)`
+pub count-is : (w : ℕ) → w < 2 ^ 64 → ones w ≡ count w
+unfolding count
+count-is = ones-of 64
+
+-- the zeros below the lowest digit that is 1
+trailing-of : (n w : ℕ) → trailingZeros n w ≡ lowestOf (has w) n
+unfolding trailingZeros lowestOf
+trailing-of zero w = refl
+trailing-of (suc n) w =
+    go (has w zero) (has-first w) (trailing-of n (w / 2) ∙ sym (lowest-ext (λ i. has w (suc i)) (has (w / 2)) n (λ i l. has-next w i)))
+  where
+    go : (b : Bool) {x y : ℕ} → cond b 1 0 ≡ w % 2 → x ≡ y → under (w % 2) x ≡ cond b 0 (suc y)
+    go true {x} e q = ap (λ (d : ℕ). under d x) (sym e)
+    go false e q = ap₂ (λ (d x : ℕ). under d x) (sym e) q
+
+-- `trailing_zeros(w)`
+pub lowest-is : (w : ℕ) → trailingZeros 64 w ≡ lowest w
+unfolding lowest
+lowest-is = trailing-of 64
+
+-- `trailing_zeros(!w)`
+pub free-is : (w : ℕ) → w < 2 ^ 64 → trailingZeros 64 ((2 ^ 64 - 1) - w) ≡ lowestFree w
+unfolding lowestFree
+free-is w h =
+    trailing-of 64 ((2 ^ 64 - 1) - w) ∙ lowest-ext (has ((2 ^ 64 - 1) - w)) (λ i. not (has w i)) 64 (λ i l. has-not 64 w i h l)

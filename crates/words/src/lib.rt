@@ -1,0 +1,71 @@
+// A u64 as a set of 64 places.
+ghost use mathlib.Core.Path.{_≡_};
+ghost use Rattle.words.specs.Words.{has, with, without, both, less, lowest, lowestFree, count};
+
+// A word has the places 0 to 63.
+const PLACES: u32 = 64;
+
+// Is the place in the word? No place past 63 is.
+pub fn has(word: u64, place: u32) -> bool
+    ensures { λ r. ⌜ r ≡ has word place ⌝ }
+{
+    if place >= PLACES {
+        return false;
+    }
+    (word >> place) & 1 == 1
+}
+
+// The word with the place; the word itself for a place past 63.
+pub fn with(word: u64, place: u32) -> u64
+    ensures { λ r. ⌜ r ≡ with word place ⌝ }
+{
+    if place >= PLACES {
+        return word;
+    }
+    word | (1 << place)
+}
+
+// The word without the place; the word itself for a place past 63.
+pub fn without(word: u64, place: u32) -> u64
+    ensures { λ r. ⌜ r ≡ without word place ⌝ }
+{
+    if place >= PLACES {
+        return word;
+    }
+    word & !(1 << place)
+}
+
+// The places that are in both words.
+pub fn both(a: u64, b: u64) -> u64
+    ensures { λ r. ⌜ r ≡ both a b ⌝ }
+{
+    a & b
+}
+
+// The places of a that are not in b.
+pub fn less(a: u64, b: u64) -> u64
+    ensures { λ r. ⌜ r ≡ less a b ⌝ }
+{
+    a & !b
+}
+
+// The lowest place in the word; 64 where there is none.
+pub fn lowest(word: u64) -> u32
+    ensures { λ r. ⌜ r ≡ lowest word ⌝ }
+{
+    u64::trailing_zeros(word)
+}
+
+// The lowest place not in the word; 64 where all are.
+pub fn lowest_free(word: u64) -> u32
+    ensures { λ r. ⌜ r ≡ lowestFree word ⌝ }
+{
+    u64::trailing_zeros(!word)
+}
+
+// How many places are in the word.
+pub fn count(word: u64) -> u32
+    ensures { λ r. ⌜ r ≡ count word ⌝ }
+{
+    u64::count_ones(word)
+}
