@@ -112,10 +112,13 @@ abbrev pub item-found : Desk → ℕ → Which → Check
 item-found d connection which = needs (isFound (soughtBy d connection which)) 10
 
 -- "Only a named one can meet 5."
+abbrev pub isGiven : Which → Bool
+isGiven Earliest = true
+isGiven Latest = true
+isGiven (Named timestamp) = ltb timestamp never
+
 abbrev pub which-given : Which → Check
-which-given Earliest = needs true 5
-which-given Latest = needs true 5
-which-given (Named timestamp) = timestamp-given timestamp
+which-given which = needs (isGiven which) 5
 
 -- 11: "item is not OPEN on the connection"
 abbrev pub item-open : Desk → ℕ → ℕ → Check

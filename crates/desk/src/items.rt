@@ -1,6 +1,6 @@
 // The calls on items: put, get, consume, consume until.
 ghost use mathlib.Core.Path.{_≡_};
-ghost use Rattle.desk.specs.Calls.{Call, step, isFound, which-given};
+ghost use Rattle.desk.specs.Calls.{Call, step, isFound, isGiven};
 use crate::Desk;
 use crate::Next;
 use crate::is_owned;
@@ -27,7 +27,7 @@ fn is_found(found: Found) -> bool
 
 // Whether a get that names a timestamp names one that is not never.
 fn is_given(which: Which) -> bool
-    ensures { λ r. ⌜ r ≡ (which-given which) .holds ⌝ }
+    ensures { λ r. ⌜ r ≡ isGiven which ⌝ }
 {
     match which {
         Which::Earliest => true,

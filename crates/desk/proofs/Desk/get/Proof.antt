@@ -3,12 +3,10 @@ use mathlib.Core.Path.{_≡_, refl, sym, _∙_}
 use Prim.Native.Nat.{_<_}
 use native.Mathlib.Omega.{arith}
 use borrow.Author.Needs.{needs}
-use Rattle.rows.specs.declared.Which.{Which}
-use Rattle.rows.specs.declared.Which.the-variants.{Earliest, Latest, Named}
 use Rattle.rows.specs.Answers.{refusal}
 use Rattle.tables.specs.Tables.{owns}
 use Rattle.desk.specs.declared.Desk.{Desk}
-use Rattle.desk.specs.Calls.{Call, step, checks, effect, value, time, which-given, soughtBy}
+use Rattle.desk.specs.Calls.{Call, step, checks, effect, value, time, soughtBy}
 use Rattle.desk.proofs.Outcome.{accepted, refused, unchanged}
 use Rattle.desk.proofs.Owned.{accepted-below}
 use Rattle.desk.proofs.Desk.get.Statement.{statement}
@@ -24,12 +22,6 @@ desk-of c = start c .args .t1
 abbrev call-of : tie.After-check5 → Call
 call-of c = let given = start c .args in Call.get (given .thread) (given .connection) (given .which)
 
--- whichever item is asked for, the check that a timestamp is given refuses with 5
-given-code : (which : Which) → (which-given which) .code ≡ 5
-given-code Earliest = refl
-given-code Latest = refl
-given-code (Named timestamp) = refl
-
 -- the code is that of 01's checks
 code-of : (c : tie.After-check5) → c .check5 .result ≡ refusal (checks (desk-of c) (call-of c))
 unfolding refusal checks owns
@@ -43,7 +35,6 @@ code-of c =
       c .before .before .before .before .check .ensures,
       c .before .before .before .before .before .is-found .ensures,
       c .before .before .before .before .before .before .is-given .ensures,
-      given-code,
       owned .is-owned .ensures,
       owned .before .in-use .ensures,
       owned .before .before .seek .ensures,
@@ -60,7 +51,7 @@ sought-is c =
 connection-below : (c : tie.After-check5) → c .check5 .result ≡ 0 → start c .args .connection < 32
 unfolding checks
 connection-below c zero =
-    accepted-below (desk-of c) (start c .args .thread) (start c .args .connection) _ (code-of c) (refl, (rw given-code, (refl, tt))) zero
+    accepted-below (desk-of c) (start c .args .thread) (start c .args .connection) _ (code-of c) (refl, (refl, (refl, tt))) zero
 
 connection-at-requires : tie.Need-connection-at-requires
 connection-at-requires c κs = search needs
