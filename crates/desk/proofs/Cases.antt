@@ -1,23 +1,8 @@
 -- P1 to P10 hold, by computing the definitions. Assumes nothing.
 use mathlib.Core.Path.{refl}
-use Rattle.words.specs.Places.{foldTo, each, countOf, lowestOf, wordOf}
-use Rattle.words.specs.Words.{has, with, without, both, less, lowest, lowestFree, count}
-use Rattle.rows.specs.States.{stateOf}
-use Rattle.rows.specs.Facts.{got, consumedByName, cleared, raised}
-use Rattle.rows.specs.Answers.{refusal, answered}
-use Rattle.rows.specs.Choices.{before}
-use Rattle.tables.specs.Tables.{inUse, owns, isInput, readsFor}
-use Rattle.tables.specs.Seen.{isItem, placeOf, state, lies, isUnseenAt, isOpenAt, isPendingAt}
-use Rattle.tables.specs.Times.{smallest, some, leastTime, openTime, leastOpen, leastKeep, isAwaited, leastAwaited}
-use Rattle.tables.specs.Search.{chosen, sought}
-use Rattle.leaving.specs.Leaving.{rowsOf, leaves, leaving, sweptItems, sweptConnections}
-use Rattle.desk.specs.Desk.{fresh}
-use Rattle.desk.specs.Times.{visibleTime, weakBound, strongBound}
-use Rattle.desk.specs.Calls.{checks, adopted, attachedAs, stored, swept, effect, value, time, outcome, step}
-use Rattle.desk.specs.Questions.{questionChecks, replyValue, replyTime, reply}
-use Rattle.desk.specs.Runs.{after}
 use Rattle.desk.specs.Cases.{CasesHold, allHold}
+use Rattle.desk.proofs.Computing.{computing}
 
 pub cases-hold : CasesHold
-unfolding foldTo each countOf lowestOf wordOf has with without both less lowest lowestFree count stateOf got consumedByName cleared raised refusal answered before inUse owns isInput readsFor rowsOf isItem placeOf state lies isUnseenAt isOpenAt isPendingAt smallest some leastTime openTime leastOpen leastKeep isAwaited leastAwaited chosen sought leaves leaving sweptItems sweptConnections fresh visibleTime weakBound strongBound checks adopted attachedAs stored swept effect value time outcome step questionChecks replyValue replyTime reply after allHold
+unfolding computing allHold
 cases-hold = refl

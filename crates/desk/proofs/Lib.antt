@@ -1,4 +1,6 @@
 -- The laws that the proofs of the desk's calls share.
 pub mod Outcome
+pub mod Computing
 pub mod Cases
 pub mod Owned
+pub mod Runs

@@ -19,14 +19,14 @@ use Rattle.desk.specs.Desk.{connectionsOf}
 use Rattle.desk.specs.Calls.{thread-lives, connection-owned}
 
 -- a used place lies in its table
-pub used-below : (used : ℕ) {place places : ℕ} → inUse used place places ≡ true → place < places
+pub used-inside : (used : ℕ) {place places : ℕ} → inUse used place places ≡ true → place < places
 unfolding inUse
-used-below used {place} {places} e = ltb-true place places (and-left (ltb place places) (has used place) e)
+used-inside used {place} {places} e = ltb-true place places (and-left (ltb place places) (has used place) e)
 
 -- a connection that a thread owns lies in one of the 32 places
 pub owned-below : (d : Desk) (thread connection : ℕ) → owns (connectionsOf d) thread connection ≡ true → connection < 32
 unfolding owns
-owned-below d thread connection owned = used-below (d .attached) (and-left _ _ owned)
+owned-below d thread connection owned = used-inside (d .attached) (and-left _ _ owned)
 
 -- so does the one of an accepted call, whatever the call checks after 1 and 3
 pub accepted-below : (d : Desk) (thread connection : ℕ) (rest : List Check) {code : ℕ}

@@ -2,7 +2,6 @@
 use mathlib.Core.Path.{_≡_}
 use mathlib.Core.Bool.{Bool, true, _&&_}
 use mathlib.Core.List.{List, [], _∷_, _++_}
-use Prim.Native.Nat.{ℕ}
 use lib.Dec.{eqb}
 use Rattle.rows.specs.declared.Answer.{Answer}
 use Rattle.rows.specs.declared.Which.the-variants.{Earliest, Named}
@@ -65,6 +64,9 @@ cases =
     ∷ expect unseenFive (ask (state-of 0 5)) (answer 0 1 0)
     ∷ expect unseenFive (ask weak-bound) (answer 0 0 0)
     ∷ expect unseenFive (ask strong-bound) (answer 0 0 5)
+    -- and an UNSEEN item does not count into visible time: the thread may not put at 6 without having got anything
+    ∷ expect unseenFive (ask (visible-time 0)) (answer 0 0 never)
+    ∷ expect unseenFive (call (put 0 1 6 600)) (answer 6 0 0)
     -- P6: the same, OPEN: visible time 5, strong 5
     ∷ expect (unseenFive ++ get 0 0 Earliest ∷ []) (ask (state-of 0 5)) (answer 0 2 0)
     ∷ expect (unseenFive ++ get 0 0 Earliest ∷ []) (ask (visible-time 0)) (answer 0 0 5)

@@ -4,4 +4,5 @@ pub mod Times
 pub mod Calls
 pub mod Questions
 pub mod Runs
+pub mod Claims
 pub mod Cases

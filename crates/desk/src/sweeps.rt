@@ -9,9 +9,9 @@ use crate::Desk;
 use crate::Next;
 use leaving::below;
 use leaving::hand_back;
-use leaving::swept_connections;
-use leaving::swept_items;
+use leaving::swept_row;
 use rows::Answer;
+use rows::Item;
 use rows::answers::check;
 
 impl Desk {
@@ -19,7 +19,6 @@ impl Desk {
     fn sweep(mut self, bound: u32, slice: &mut [u64]) -> Next
         ensures { λ r. ⌜ (r ≡ outcome self (slice-long self bound (now (slice .entry)) ∷ []) (count (leaving (itemsOf self) bound)) bound (swept self bound)) × (now (slice .exit) ≡ handedBack (self .items) (leaving (itemsOf self) bound) (now (slice .entry))) ⌝ }
     {
-        let connections = self.connections;
         let items = self.items;
         let gone = below(items, self.present, bound);
         let number = words::count(gone);
@@ -27,11 +26,22 @@ impl Desk {
         let answer = Answer::with_code(code, number as u64, bound);
         hand_back(items, gone, slice);
         if code == 0 {
-            let left = swept_items(items, gone);
-            let seen = swept_connections(connections, self.attached, bound, gone);
-            self.items = left;
+            // Both tables are stored into where they stand: a table that is passed or returned is copied.
+            let mut rest = gone;
+            let mut p = words::lowest(rest);
+            while p < Desk::ITEMS {
+                self.items[p as usize] = Item::NONE;
+                rest = words::without(rest, p);
+                p = words::lowest(rest);
+            }
+            let mut k: u32 = 0;
+            while k < Desk::CONNECTIONS {
+                let row = self.connections[k as usize];
+                let used = words::has(self.attached, k);
+                self.connections[k as usize] = swept_row(used, bound, gone, row);
+                k += 1;
+            }
             self.present = words::less(self.present, gone);
-            self.connections = seen;
         }
         Next { answer, desk: self }
     }

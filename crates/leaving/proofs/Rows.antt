@@ -83,6 +83,12 @@ module _ {A : Type 0} where
   unfolding each
   fold-rows n rule xs d sized = each-rows n (λ k. true) rule xs d sized
 
+  -- such a loop has not touched the row that it comes to, nor a later one
+  pub fold-untouched : (n : ℕ) (rule : ℕ → A) (xs : List A) (k : ℕ) (d : A) → n ≤ k
+      → getD (foldTo (λ i rows. set rows i (rule i)) xs n) k d ≡ getD xs k d
+  unfolding each
+  fold-untouched n rule xs k d past = past-written (λ i. true) rule xs n k d past
+
 -- the length of an array of structs, from what owning it tells: that is said of its elements, mapped
 pub length-mapped : (X Y : Type 0) (f : X → Y) (l : List X) (n : ℕ) → length (map f l) ≡ n → length l ≡ n
 length-mapped X Y f l n sized = sym (length-map l f) ∙ sized

@@ -5,7 +5,7 @@ ghost use lib.Dec.{eqb};
 ghost use Rattle.words.specs.Words.{with};
 ghost use Rattle.rows.specs.Numbers.{input};
 ghost use Rattle.tables.specs.Tables.{table};
-ghost use Rattle.leaving.specs.Leaving.{freedConnections, handedBack, leaving, ownedBy, sweptConnection, sweptConnections, sweptItems};
+ghost use Rattle.leaving.specs.Leaving.{freedConnections, handedBack, leaving, ownedBy, sweptConnection};
 use rows::Connection;
 use rows::Found;
 use rows::Item;
@@ -63,23 +63,8 @@ pub fn hand_back(items: [Item; 64], gone: u64, slice: &mut [u64])
     }
 }
 
-// The items' rows once those in the places have left.
-pub fn swept_items(items: [Item; 64], gone: u64) -> [Item; 64]
-    ensures { λ r. ⌜ r ≡ sweptItems items gone ⌝ }
-{
-    let mut left = items;
-    let mut rest = gone;
-    let mut p = words::lowest(rest);
-    while p < 64 {
-        left[p as usize] = Item::NONE;
-        rest = words::without(rest, p);
-        p = words::lowest(rest);
-    }
-    left
-}
-
 // A connection's row after a sweep: its facts of the items that left are cleared, and an input's mark is raised.
-fn swept_row(used: bool, bound: u32, gone: u64, connection: Connection) -> Connection
+pub fn swept_row(used: bool, bound: u32, gone: u64, connection: Connection) -> Connection
     ensures { λ r. ⌜ r ≡ sweptConnection (used && eqb (connection .direction) input) bound gone connection ⌝ }
 {
     let clear = connection.cleared(gone);
@@ -90,25 +75,6 @@ fn swept_row(used: bool, bound: u32, gone: u64, connection: Connection) -> Conne
         return clear;
     }
     clear.raised(bound)
-}
-
-// The connections' rows once the items in the places have left by a sweep at the bound.
-pub fn swept_connections(
-    connections: [Connection; 32],
-    attached: u64,
-    bound: u32,
-    gone: u64,
-) -> [Connection; 32]
-    ensures { λ r. ⌜ r ≡ sweptConnections (table attached connections) bound gone ⌝ }
-{
-    let mut left = connections;
-    let mut k: u32 = 0;
-    while k < 32 {
-        let connection = connections[k as usize];
-        left[k as usize] = swept_row(words::has(attached, k), bound, gone, connection);
-        k += 1;
-    }
-    left
 }
 
 // The places of the thread's connections.

@@ -1,5 +1,5 @@
 -- Document 01, "Which is earliest, latest or one named timestamp, among UNSEEN items only." Assumes nothing.
-use mathlib.Core.Bool.{Bool, true, false, _&&_}
+use mathlib.Core.Bool.{Bool, true, _&&_}
 use Prim.Native.Nat.{ℕ}
 use mathlib.Core.List.{List}
 use lib.Dec.{eqb}
@@ -8,7 +8,7 @@ use Rattle.words.specs.Places.{each}
 use Rattle.rows.specs.declared.Connection.{Connection}
 use Rattle.rows.specs.declared.Item.{Item}
 use Rattle.rows.specs.declared.Found.{Found}
-use Rattle.rows.specs.declared.Found.the-variants.{At, Nothing}
+use Rattle.rows.specs.declared.Found.the-variants.{Nothing}
 use Rattle.rows.specs.declared.Which.{Which}
 use Rattle.rows.specs.declared.Which.the-variants.{Earliest, Latest, Named}
 use Rattle.rows.specs.Choices.{sooner, preferred}

@@ -1,7 +1,6 @@
 -- `desk::Desk::channel` meets its contract. Assumes nothing.
 use borrow.Author.Needs.{needs}
-use mathlib.Core.Path.{_≡_, sym, _∙_}
-use Prim.Native.Nat.{ℕ}
+use mathlib.Core.Path.{_≡_, _∙_}
 use Rattle.rows.specs.Answers.{refusal}
 use Rattle.desk.specs.Calls.{Call, step, checks, effect, value, time}
 use Rattle.desk.proofs.Outcome.{accepted, refused}

@@ -1,5 +1,5 @@
 -- `desk::Desk::detach` meets its contract. Assumes nothing.
-use mathlib.Core.Path.{_≡_, refl}
+use mathlib.Core.Path.{_≡_}
 use Prim.Native.Nat.{_<_}
 use borrow.Author.Needs.{needs}
 use Rattle.rows.specs.Answers.{refusal}

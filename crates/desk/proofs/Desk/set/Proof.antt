@@ -1,6 +1,6 @@
 -- `desk::Desk::set` meets its contract. Assumes nothing.
 use Rattle.desk.proofs.Outcome.{accepted, refused}
-use Rattle.desk.proofs.Owned.{used-below}
+use Rattle.desk.proofs.Owned.{used-inside}
 use Rattle.desk.specs.Calls.{Call, step, checks, effect, value, time}
 use Rattle.rows.proofs.Laws.{passed}
 use Rattle.rows.specs.Answers.{refusal}
@@ -39,7 +39,7 @@ unfolding checks
 element-set-from-self c =
     let k = c .before .before in
     let a = k .before .before .before .before .args in
-    used-below (a .t1 .living) (passed (checks (a .t1) (Call.set-time (a .thread) (a .time))) (refl, (refl, tt)) (sym (code-of k) ∙ c .if1 .taken) .0)
+    used-inside (a .t1 .living) (passed (checks (a .t1) (Call.set-time (a .thread) (a .time))) (refl, (refl, tt)) (sym (code-of k) ∙ c .if1 .taken) .0)
 
 returns : tie.Need-returns
 unfolding step effect value time

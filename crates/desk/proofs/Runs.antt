@@ -1,0 +1,27 @@
+-- The proofs of what holds of every run. The claims themselves stand in specs/Claims.antt.
+pub mod Basics
+pub mod Reached
+pub mod Folds
+pub mod Chosen
+pub mod Order
+pub mod Inputs
+pub mod Pends
+pub mod Times
+pub mod Origins
+pub mod Marks
+pub mod Above
+pub mod Got
+pub mod Sound
+pub mod Prepend
+pub mod Low
+pub mod Complete
+pub mod Before
+pub mod Swept
+pub mod Tickets
+pub mod Exactly
+pub mod Accounts
+pub mod Twice
+pub mod Onward
+pub mod Forward
+pub mod Examples
+pub mod FullDesk
