@@ -1,0 +1,107 @@
+-- Lines computed by the definition: nothing is claimed here beyond these cases. Assumes nothing.
+use mathlib.Core.List.{List, [], _∷_, _++_}
+use mathlib.Core.Path.{_≡_, refl}
+use Prim.Native.Char.{code}
+use Prim.Native.Nat.{ℕ}
+use Prim.Native.String.{String, [] as nothing, _∷_ as _then_}
+use lib.ListN.{replicate}
+use Rattle.lines.specs.Lines.{fieldsOf, allDigits, decimal, lineOf, readLine}
+use Rattle.lines.specs.declared.Line.{Line}
+use Rattle.lines.specs.declared.Line.the-variants.{
+  Channel,
+  NewThread,
+  AttachInput,
+  AttachOutput,
+  Detach,
+  End,
+  Set,
+  Put,
+  GetEarliest,
+  GetLatest,
+  GetNamed,
+  Consume,
+  ConsumeUntil,
+  WeakSweep,
+  StrongSweep,
+  Unreadable,
+}
+
+-- the bytes of a text of characters of one byte each
+abbrev bytes : String → List ℕ
+bytes nothing = []
+bytes (character then text) = code character ∷ bytes text
+
+abbrev Reads : String → Line → Type 0
+Reads text line = readLine (bytes text) ≡ line
+
+every-letter : Reads "c 0" (Channel 0)
+    × Reads "n 0 7" (NewThread 0 7)
+    × Reads "i 1 2" (AttachInput 1 2)
+    × Reads "o 1 2" (AttachOutput 1 2)
+    × Reads "d 0 3" (Detach 0 3)
+    × Reads "e 15" (End 15)
+    × Reads "s 0 9" (Set 0 9)
+    × Reads "p 0 1 5 500" (Put 0 1 5 500)
+    × Reads "g 0 4" (GetEarliest 0 4)
+    × Reads "G 0 4" (GetLatest 0 4)
+    × Reads "x 0 4 5" (GetNamed 0 4 5)
+    × Reads "f 0 4 5" (Consume 0 4 5)
+    × Reads "u 0 4 5" (ConsumeUntil 0 4 5)
+    × Reads "w" WeakSweep
+    × Reads "W" StrongSweep
+unfolding fieldsOf allDigits decimal lineOf readLine
+every-letter = (refl, refl, refl, refl, refl, refl, refl, refl, refl, refl, refl, refl, refl, refl, refl)
+
+-- each letter takes so many numbers, no more and no fewer, and no other letter is read
+counts : Reads "c" Unreadable
+    × Reads "c 0 0" Unreadable
+    × Reads "p 0 1 5" Unreadable
+    × Reads "p 0 1 5 500 0" Unreadable
+    × Reads "w 0" Unreadable
+    × Reads "z 0" Unreadable
+    × Reads "C 0" Unreadable
+    × Reads "cc 0" Unreadable
+    × Reads "c0" Unreadable
+    × Reads "0" Unreadable
+    × Reads "" Unreadable
+unfolding fieldsOf allDigits decimal lineOf readLine
+counts = (refl, refl, refl, refl, refl, refl, refl, refl, refl, refl, refl)
+
+-- the largest number of each width is read, the next one is not
+widths : Reads "c 4294967295" (Channel 4294967295)
+    × Reads "c 4294967296" Unreadable
+    × Reads "p 0 1 4294967295 18446744073709551615" (Put 0 1 4294967295 18446744073709551615)
+    × Reads "p 0 1 4294967296 18446744073709551615" Unreadable
+    × Reads "p 0 1 5 18446744073709551616" Unreadable
+    × Reads "p 0 1 5 99999999999999999999999999999999" Unreadable
+unfolding fieldsOf allDigits decimal lineOf readLine
+widths = (refl, refl, refl, refl, refl, refl)
+
+-- leading zeros are read; 80 bytes are a line, 81 are not
+zeros : Reads "c 007" (Channel 7)
+    × Reads "p 00 01 00004294967295 00018446744073709551615" (Put 0 1 4294967295 18446744073709551615)
+    × (readLine (bytes "c " ++ replicate 78 48) ≡ Channel 0)
+    × (readLine (bytes "c " ++ replicate 79 48) ≡ Unreadable)
+    × (readLine (replicate 80 119) ≡ Unreadable)
+    × (readLine (replicate 81 119) ≡ Unreadable)
+unfolding fieldsOf allDigits decimal lineOf readLine
+zeros = (refl, refl, refl, refl, refl, refl)
+
+-- one space before each number, and nothing else besides digits
+spaces : Reads "c  0" Unreadable
+    × Reads "c 0 " Unreadable
+    × Reads "n 0 " Unreadable
+    × Reads " c 0" Unreadable
+    × Reads "w " Unreadable
+    × Reads " " Unreadable
+    × Reads "c\t0" Unreadable
+    × Reads "c 0\r" Unreadable
+    × Reads "c 0\0" Unreadable
+    × Reads "w\r" Unreadable
+    × Reads "c +1" Unreadable
+    × Reads "c -1" Unreadable
+    × Reads "c 1a" Unreadable
+    × Reads "c /" Unreadable
+    × Reads "c :" Unreadable
+unfolding fieldsOf allDigits decimal lineOf readLine
+spaces = (refl, refl, refl, refl, refl, refl, refl, refl, refl, refl, refl, refl, refl, refl, refl)

@@ -1,0 +1,190 @@
+-- A part of the input, byte by byte: what is known after some of its bytes, and what one byte more makes of it. Assumes nothing.
+use Prim.Native.Nat.{ℕ, suc, _+_, _-_, _≤_, _<_, min}
+use mathlib.Core.Path.{_≡_, refl, ap, sym, _∙_}
+use mathlib.Core.Bool.{Bool, true, false, cond}
+use mathlib.Core.List.{List, [], _∷_, _++_, append-assoc, append-nil}
+use native.Mathlib.Numerals.{add-one, unary-clauses}
+use native.Mathlib.Omega.{arith}
+use borrow.Author.Tests.{le-ltb, ne-eqb, ltb-true, ltb-false}
+use lib.Dec.{eqb, ltb}
+use lib.ListN.{length, take, drop, getD, length-append, length-drop, drop-of-length-le, take-append-drop}
+use lib.Seq.{drop-cons, take-suc, take-all, take-at, drop-append-add, drop-drop}
+use Rattle.text.specs.Text.{written}
+use Rattle.desk.specs.declared.Desk.{Desk}
+use Rattle.session.specs.declared.Reader.{Reader}
+use Rattle.session.specs.Turns.{turn, printed}
+use Rattle.session.specs.Stream.{reader, lineSoFar, joined, readByte, printedBy, readerAfter, printedFor, waits, usedOf, printedAtEnd}
+
+-- ---- one part more, and one byte more
+
+pub reader-append : (r : Reader) (bytes more : List ℕ) → readerAfter r (bytes ++ more) ≡ readerAfter (readerAfter r bytes) more
+unfolding readerAfter
+reader-append r [] more = refl
+reader-append r (byte ∷ bytes) more = reader-append (readByte r byte) bytes more
+
+pub printed-append : (r : Reader) (bytes more : List ℕ)
+    → printedFor r (bytes ++ more) ≡ printedFor r bytes ++ printedFor (readerAfter r bytes) more
+unfolding readerAfter printedFor
+printed-append r [] more = refl
+printed-append r (byte ∷ bytes) more =
+    rw (printed-append (readByte r byte) bytes more) (sym (append-assoc (printedBy r byte) _ _))
+
+reader-more : (r : Reader) (bytes : List ℕ) (byte : ℕ) → readerAfter r (bytes ++ (byte ∷ [])) ≡ readByte (readerAfter r bytes) byte
+unfolding readerAfter
+reader-more r bytes byte = reader-append r bytes (byte ∷ [])
+
+printed-more : (r : Reader) (bytes : List ℕ) (byte : ℕ)
+    → printedFor r (bytes ++ (byte ∷ [])) ≡ printedFor r bytes ++ printedBy (readerAfter r bytes) byte
+unfolding printedFor
+printed-more r bytes byte = printed-append r bytes (byte ∷ []) ∙ rw append-nil
+
+used-more : (r : Reader) (byte : ℕ) (bytes : List ℕ) (room : ℕ)
+    → waits byte room ≡ false
+    → usedOf r (byte ∷ bytes) room ≡ suc (usedOf (readByte r byte) bytes (room - length (printedBy r byte)))
+unfolding usedOf
+used-more r byte bytes room goes = rw goes
+
+used-waiting : (r : Reader) (byte : ℕ) (bytes : List ℕ) (room : ℕ) → waits byte room ≡ true → usedOf r (byte ∷ bytes) room ≡ 0
+unfolding usedOf
+used-waiting r byte bytes room waiting = rw waiting
+
+pub goes-on : (byte room : ℕ) → eqb byte 10 ≡ true → waits byte room ≡ false → 1407 ≤ room
+goes-on byte room newline goes = ltb-false room 1407 (rw newline at goes)
+
+-- ---- after i bytes of the part, with the text so far in the first `at` places of out
+
+pub record Fed (first : Reader) (part before : List ℕ) (r : Reader) (i at : ℕ) (out : List ℕ) : Type 0 where
+  pub used : i + usedOf r (drop i part) (length before - at) ≡ usedOf first part (length before)
+  pub reads : r ≡ readerAfter first (take i part)
+  pub place : at ≡ length (printedFor first (take i part))
+  pub bytes : out ≡ printedFor first (take i part) ++ drop at before
+  pub room : at ≤ length before
+
+pub fed-none : (first : Reader) (part before : List ℕ) → Fed first part before first 0 0 before
+unfolding readerAfter printedFor
+fed-none first part before = record { used = simp unary-clauses (omega arith); reads = refl; place = refl; bytes = refl; room = omega arith }
+
+module _ (first : Reader) (part before : List ℕ) (r : Reader) (i at : ℕ) (out : List ℕ) (fed : Fed first part before r i at out) where
+  pub fed-length : length out ≡ length before
+  fed-length = ap length (fed .bytes) ∙ simp (length-append, length-drop) (omega (arith, fed .place, fed .room))
+
+  abbrev text : List ℕ
+  text = printedFor first (take i part)
+
+  -- behind the text so far out is as it was
+  rest : (k : ℕ) → drop (at + k) out ≡ drop (at + k) before
+  rest k =
+      ap (drop (at + k)) (fed .bytes)
+      ∙ ap (λ (n : ℕ). drop (n + k) (text ++ drop at before)) (fed .place)
+      ∙ drop-append-add text (drop at before) k
+      ∙ drop-drop k at before
+
+  front : take at out ≡ text
+  front = ap (take at) (fed .bytes) ∙ take-at text (drop at before) at (sym (fed .place))
+
+  module _ (byte : ℕ) (more : i < length part) (is : byte ≡ getD part i 0) where
+    fed-byte : (end : ℕ) (after : List ℕ)
+        → waits byte (length before - at) ≡ false
+        → end ≡ at + length (printedBy r byte)
+        → end ≤ length before
+        → after ≡ take at out ++ printedBy r byte ++ drop end out
+        → Fed first part before (readByte r byte) (i + 1) end after
+    fed-byte end after goes ends fits wrote =
+        let parted : drop i part ≡ byte ∷ drop (i + 1) part = rw (add-one, is) (drop-cons part i 0 more) in
+        let longer : take (i + 1) part ≡ take i part ++ (byte ∷ []) = rw (add-one, is) (take-suc part i 0 more) in
+        let one = used-more r byte (drop (i + 1) part) (length before - at) goes in
+        let left : length before - at - length (printedBy r byte) ≡ length before - end = omega arith in
+        let told = rw (parted, one, left) at (fed .used) in
+        let now = ap (λ (s : Reader). readByte s byte) (fed .reads) in
+        let said = ap (λ (s : Reader). printedFor first (take i part) ++ printedBy s byte) (fed .reads) in
+        let text-more : printedFor first (take (i + 1) part) ≡ printedFor first (take i part) ++ printedBy r byte
+        = ap (printedFor first) longer ∙ printed-more first (take i part) byte ∙ sym said in
+        let behind : drop end out ≡ drop end before = rw ends (rest (length (printedBy r byte))) in
+        record {
+          used = omega arith;
+          reads = now ∙ sym (reader-more first (take i part) byte) ∙ ap (readerAfter first) (sym longer);
+          place = rw (text-more, length-append) (omega (arith, fed .place));
+          bytes = wrote ∙ rw (front, behind, text-more);
+          room = fits;
+        }
+
+    -- a byte that joins the line
+    pub fed-joins : eqb byte 10 ≡ false → Fed first part before (joined r byte) (i + 1) at out
+    unfolding readByte printedBy
+    fed-joins other =
+        let none : printedBy r byte ≡ [] = rw other in
+        let joins : readByte r byte ≡ joined r byte = rw other in
+        let stays : out ≡ take at out ++ printedBy r byte ++ drop at out = rw (none, append-nil) (sym (take-append-drop at out)) in
+        let none-long : length (printedBy r byte) ≡ 0 = ap length none in
+        rw joins at (fed-byte at out (rw other) (omega arith) (fed .room) stays)
+
+    -- a newline that ends it
+    pub fed-ends : (line : List ℕ) (desk : Desk) (end : ℕ) (after : List ℕ)
+        → line ≡ lineSoFar r
+        → eqb byte 10 ≡ true
+        → waits byte (length out - at) ≡ false
+        → length after ≡ length out
+        → (desk ≡ turn (r .desk) line .desk) × (end ≡ at + length (printed (turn (r .desk) line))) × (after ≡ written out at (printed (turn (r .desk) line)))
+        → Fed first part before (reader desk (r .line) 0) (i + 1) end after
+    unfolding readByte printedBy written
+    fed-ends line desk end after whole newline goes same turned =
+        let told = rw whole at turned in
+        let says : printedBy r byte ≡ printed (turn (r .desk) (lineSoFar r)) = rw newline in
+        let next : readByte r byte ≡ reader desk (r .line) 0 = rw (newline, told .0) in
+        let ends : end ≡ at + length (printedBy r byte) = rw says (told .1) in
+        let wrote : after ≡ take at out ++ printedBy r byte ++ drop end out = rw (says, told .1) (told .2) in
+        let long : length (take at out ++ printedBy r byte ++ drop end out) ≡ length out = sym (ap length wrote) ∙ same in
+        let parts = rw (length-append, length-append, front, length-drop) at long in
+        let room : end ≤ length before = omega (arith, fed-length, fed .place) in
+        rw next at (fed-byte end after (rw fed-length at goes) ends room wrote)
+
+  -- all bytes are used, or a newline waits
+  pub fed-all : length part ≤ i → i ≡ usedOf first part (length before)
+  unfolding usedOf
+  fed-all all =
+      let none = rw (drop-of-length-le part all) at (fed .used) in
+      omega arith
+
+  pub fed-waits : (byte : ℕ) → i < length part → byte ≡ getD part i 0 → waits byte (length out - at) ≡ true → i ≡ usedOf first part (length before)
+  fed-waits byte more is waiting =
+      let parted : drop i part ≡ byte ∷ drop (i + 1) part = rw (add-one, is) (drop-cons part i 0 more) in
+      let none = rw (parted, used-waiting r byte (drop (i + 1) part) (length before - at) (rw fed-length at waiting)) at (fed .used) in
+      omega arith
+
+  -- what `feed` promises, once the bytes used are known
+  pub fed-promised : i ≡ usedOf first part (length before)
+      → (i ≡ usedOf first part (length before))
+      × (r ≡ readerAfter first (take (usedOf first part (length before)) part))
+      × (at ≡ length (printedFor first (take (usedOf first part (length before)) part)))
+      × (out ≡ printedFor first (take (usedOf first part (length before)) part) ++ drop (length (printedFor first (take (usedOf first part (length before)) part))) before)
+  fed-promised n = rw (← n) (refl, fed .reads, fed .place, rw (← fed .place) (fed .bytes))
+
+-- ---- the bytes of a line that are there
+
+by-test : (line : List ℕ) (held : ℕ) (test : Bool) → ltb held 81 ≡ test → length line ≡ 81 → take (min held 81) line ≡ take held line
+by-test line held true small long =
+    let least : min held 81 ≡ held = omega (arith, ltb-true held 81 small) in
+    rw least
+by-test line held false large long =
+    let most : min held 81 ≡ 81 = omega (arith, ltb-false held 81 large) in
+    rw most (take-all 81 line (omega arith) ∙ sym (take-all held line (omega (arith, ltb-false held 81 large))))
+
+pub kept-line : (line : List ℕ) (held : ℕ) → length line ≡ 81 → take (min held 81) line ≡ take held line
+kept-line line held long = by-test line held (ltb held 81) refl long
+
+-- ---- the end of the input, where the last line lacks its newline
+
+pub finished : (r : Reader) (line before after : List ℕ) (end : ℕ)
+    → line ≡ lineSoFar r
+    → (r .held ≡ 0 → ⊥)
+    → 1407 ≤ length before
+    → end ≡ 0 + length (printed (turn (r .desk) line))
+    → after ≡ written before 0 (printed (turn (r .desk) line))
+    → (end ≡ length (cond (ltb (length before) 1407) [] (printedAtEnd r)))
+    × (after ≡ cond (ltb (length before) 1407) [] (printedAtEnd r) ++ drop (length (cond (ltb (length before) 1407) [] (printedAtEnd r))) before)
+unfolding printedAtEnd written
+finished r line before after end is some fits ends wrote =
+    let ahead : 0 + length (printed (turn (r .desk) line)) ≡ length (printed (turn (r .desk) line)) = omega arith in
+    let place = rw (ahead, is) at ends in
+    let bytes = rw (ahead, is) at wrote in
+    rw (le-ltb (length before) 1407 fits, ne-eqb (r .held) 0 some) (place, bytes)

@@ -1,0 +1,156 @@
+-- However the input is chopped, the whole output is that of the whole input (`session-in-parts`). Assumes nothing.
+use mathlib.Core.Bool.{Bool, true, false, cond}
+use mathlib.Core.List.{List, [], _∷_, _++_, append-assoc, append-nil}
+use mathlib.Core.Path.{_≡_, refl, sym, ap, _∙_}
+use Prim.Native.Nat.{ℕ, _+_, _≤_, _<_, min}
+use native.Mathlib.Numerals.{add-one}
+use native.Mathlib.Omega.{arith}
+use borrow.Author.Tests.{ltb-true, ltb-false, leb-true, leb-false, lt-leb, eq-eqb, ne-eqb}
+use lib.Dec.{eqb, leb, ltb}
+use lib.ListN.{length, set, take, length-append, length-take, length-set}
+use lib.Seq.{take-all, take-append-le, take-suc-set, append-snoc}
+use Rattle.lines.specs.declared.Line.{Line}
+use Rattle.lines.specs.Lines.{readLine}
+use Rattle.session.specs.declared.Reader.{Reader}
+use Rattle.session.specs.Turns.{turn, turnBy, printed}
+use Rattle.session.specs.Sessions.{linesOf, answers, sessionText}
+use Rattle.session.proofs.Feeding.{reader-append, printed-append}
+use Rattle.session.specs.Stream.{reader, lineSoFar, start, joined, readByte, printedBy, readerAfter, printedFor, printedAtEnd, together, printedInParts, SessionInParts}
+
+-- ---- the first 81 bytes of a line are enough
+
+pub read-front : (line : List ℕ) → readLine (take 81 line) ≡ readLine line
+unfolding readLine
+read-front line = by-length (leb (length line) 80) refl
+  where
+    by-length : (short : Bool) → leb (length line) 80 ≡ short → readLine (take 81 line) ≡ readLine line
+    by-length true e = ap readLine (take-all 81 line (omega (arith, leb-true (length line) 80 e)))
+    by-length false e =
+        let long : 80 < length (take 81 line) = omega (arith, leb-false (length line) 80 e, length-take 81 line) in
+        simp (e, lt-leb (length (take 81 line)) 80 long)
+
+-- ---- the lines of an input that begins with a line without newlines
+
+abbrev pub Unbroken : List ℕ → Type 0
+Unbroken [] = Unit {0}
+Unbroken (byte ∷ line) = (eqb byte 10 ≡ false) × Unbroken line
+
+pub unbroken-snoc : (line : List ℕ) (byte : ℕ) → Unbroken line → eqb byte 10 ≡ false → Unbroken (line ++ (byte ∷ []))
+unbroken-snoc [] byte u e = (e, tt)
+unbroken-snoc (first ∷ line) byte u e = (u .0, unbroken-snoc line byte (u .1) e)
+
+-- a newline ends it
+pub lines-ended : (line : List ℕ) (byte : ℕ) (bytes : List ℕ)
+    → Unbroken line
+    → eqb byte 10 ≡ true
+    → linesOf (line ++ byte ∷ bytes) ≡ line ∷ linesOf bytes
+unfolding linesOf
+lines-ended [] byte bytes u e = rw e
+lines-ended (first ∷ line) byte bytes u e = rw (u .0, lines-ended line byte bytes (u .1) e)
+
+-- and the end of the input, where it is not empty
+pub lines-last : (first : ℕ) (line : List ℕ) → Unbroken (first ∷ line) → linesOf (first ∷ line) ≡ (first ∷ line) ∷ []
+unfolding linesOf
+lines-last first [] u = rw (u .0)
+lines-last first (second ∷ line) u = rw (u .0, lines-last second line (u .1))
+
+-- ---- a reader amid a line: what it holds is the first 81 bytes of what came since the last newline
+
+pub record Amid (r : Reader) (line : List ℕ) : Type 0 where
+  pub unbroken : Unbroken line
+  pub front : lineSoFar r ≡ take 81 line
+  pub count : r .held ≡ min 81 (length line)
+  pub places : length (r .line) ≡ 81
+
+pub amid-turn : (r : Reader) (line : List ℕ) → Amid r line → turn (r .desk) (lineSoFar r) ≡ turn (r .desk) line
+amid-turn r line amid = ap (λ (said : Line). turnBy (r .desk) said) (ap readLine (amid .front) ∙ read-front line)
+
+pub at-start : Amid start []
+unfolding start
+at-start = record { unbroken = tt; front = refl; count = refl; places = refl }
+
+module _ (r : Reader) (line : List ℕ) (byte : ℕ) (amid : Amid r line) where
+  pub amid-newline : eqb byte 10 ≡ true → Amid (readByte r byte) []
+  unfolding readByte
+  amid-newline e = rw e (record { unbroken = tt; front = refl; count = refl; places = amid .places })
+
+  pub amid-other : eqb byte 10 ≡ false → Amid (readByte r byte) (line ++ (byte ∷ []))
+  unfolding readByte
+  amid-other e = rw e (by-room (ltb (r .held) 81) refl)
+    where
+      longer : length (line ++ (byte ∷ [])) ≡ length line + 1
+      longer = length-append line (byte ∷ [])
+
+      by-room : (room : Bool) → ltb (r .held) 81 ≡ room → Amid (joined r byte) (line ++ (byte ∷ []))
+      by-room true t =
+          let here : r .held < length (r .line) = omega (arith, ltb-true (r .held) 81 t, amid .places) in
+          let whole : length line ≤ 80 = omega (arith, ltb-true (r .held) 81 t, amid .count) in
+          rw t
+          (record {
+            unbroken = unbroken-snoc line byte (amid .unbroken) e;
+            front =
+                ap (λ (n : ℕ). take n (set (r .line) (r .held) byte)) (add-one (r .held))
+                ∙ take-suc-set (r .line) (r .held) byte here
+                ∙ ap (λ (l : List ℕ). l ++ (byte ∷ [])) (amid .front ∙ take-all 81 line (omega arith))
+                ∙ sym (take-all 81 (line ++ (byte ∷ [])) (omega (arith, longer)));
+            count = omega (arith, longer, amid .count);
+            places = length-set (r .line) (r .held) byte ∙ amid .places;
+          })
+      by-room false t =
+          let long : 81 ≤ length line = omega (arith, ltb-false (r .held) 81 t, amid .count) in
+          rw t
+          (record {
+            unbroken = unbroken-snoc line byte (amid .unbroken) e;
+            front = amid .front ∙ sym (take-append-le 81 line (byte ∷ []) long);
+            count = omega (arith, longer, amid .count);
+            places = amid .places;
+          })
+
+-- ---- the bytes that are left, from amid a line
+
+same-desk : (room : Bool) (r : Reader) (line : List ℕ) (held : ℕ) → cond room (reader (r .desk) line held) r .desk ≡ r .desk
+same-desk true r line held = refl
+same-desk false r line held = refl
+
+pub at-end : (r : Reader) (line : List ℕ) → Amid r line → printedAtEnd r ≡ answers (r .desk) (linesOf line)
+unfolding printedAtEnd answers linesOf
+at-end r [] amid = rw (eq-eqb (r .held) 0 (amid .count))
+at-end r (first ∷ line) amid =
+    let some : eqb (r .held) 0 ≡ false = ne-eqb (r .held) 0 (λ (none : r .held ≡ 0). omega (arith, amid .count)) in
+    rw (some, lines-last first line (amid .unbroken))
+    (ap printed (amid-turn r (first ∷ line) amid) ∙ sym (append-nil (printed (turn (r .desk) (first ∷ line)))))
+
+pub rest-of-session : (bytes : List ℕ) (r : Reader) (line : List ℕ)
+    → Amid r line
+    → printedFor r bytes ++ printedAtEnd (readerAfter r bytes) ≡ answers (r .desk) (linesOf (line ++ bytes))
+unfolding printedFor readerAfter readByte printedBy answers
+rest-of-session [] r line amid = rw append-nil (at-end r line amid)
+rest-of-session (byte ∷ bytes) r line amid =
+    append-assoc (printedBy r byte) _ _ ∙ by-byte (eqb byte 10) refl (rest-of-session bytes (readByte r byte))
+  where
+    by-byte : (newline : Bool)
+        → eqb byte 10 ≡ newline
+        → ((next : List ℕ)
+        → Amid (readByte r byte) next
+        → printedFor (readByte r byte) bytes ++ printedAtEnd (readerAfter (readByte r byte) bytes)
+        ≡ answers (readByte r byte .desk) (linesOf (next ++ bytes)))
+        → printedBy r byte ++ (printedFor (readByte r byte) bytes ++ printedAtEnd (readerAfter (readByte r byte) bytes))
+        ≡ answers (r .desk) (linesOf (line ++ byte ∷ bytes))
+    by-byte true e rest =
+        rw (rest [] (amid-newline r line byte amid e), lines-ended line byte bytes (amid .unbroken) e, e, amid-turn r line amid)
+    by-byte false e rest =
+        rw (rest (line ++ (byte ∷ [])) (amid-other r line byte amid e), append-snoc line byte bytes, e, same-desk)
+
+-- ---- the parts one after the other
+
+pub parts-together : (parts : List (List ℕ)) (r : Reader)
+    → printedInParts r parts ≡ printedFor r (together parts) ++ printedAtEnd (readerAfter r (together parts))
+unfolding printedInParts together printedFor readerAfter
+parts-together [] r = refl
+parts-together (part ∷ parts) r =
+    ap (λ (text : List ℕ). printedFor r part ++ text) (parts-together parts (readerAfter r part))
+    ∙ rw (printed-append r part (together parts), reader-append r part (together parts)) (sym (append-assoc (printedFor r part) _ _))
+
+pub session-in-parts : SessionInParts
+unfolding sessionText start
+session-in-parts parts = parts-together parts start ∙ rest-of-session (together parts) start [] at-start

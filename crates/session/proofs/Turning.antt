@@ -1,0 +1,105 @@
+-- A turn from what the calls promise: its answer, its tickets and its desk. Assumes nothing.
+use Prim.Native.Nat.{ℕ, _+_, _≤_, zero-le}
+use mathlib.Core.Path.{_≡_, refl}
+use mathlib.Core.Bool.{Bool, true, false, cond}
+use mathlib.Core.List.{List, []}
+use lib.Dec.{eqb}
+use lib.ListN.{length, take}
+use native.Mathlib.Omega.{arith}
+use Rattle.words.specs.Words.{count, has}
+use Rattle.words.proofs.Laws.{count-le}
+use Rattle.rows.specs.Answers.{answer, answered, refusal}
+use Rattle.desk.specs.declared.Desk.{Desk}
+use Rattle.desk.specs.declared.Next.{Next}
+use Rattle.desk.specs.Calls.{Call, weak-sweep, strong-sweep, checks, value, time, outcome, step, sliceAfter}
+use Rattle.lines.specs.declared.Line.{Line}
+use Rattle.lines.specs.declared.Line.the-variants.{Channel, NewThread, AttachInput, AttachOutput, Detach, End, Set, Put, GetEarliest, GetLatest, GetNamed, Consume, ConsumeUntil, WeakSweep, StrongSweep, Unreadable}
+use Rattle.lines.specs.Lines.{readLine}
+use Rattle.text.specs.Text.{answerText, hasRoom, written}
+use Rattle.text.proofs.Room.{room}
+use Rattle.session.specs.Turns.{Turn, calling, sweeping, slice, turnBy, turn, printed}
+use Rattle.session.specs.Tickets.{sweptCount, ticketCount}
+
+-- the turn of an answer, so many tickets of the slice, and a desk
+abbrev pub turned : Next → ℕ → List ℕ → Turn
+turned next number slice = record { answer = next .answer; tickets = take number slice; desk = next .desk }
+
+-- a call that hands back no tickets
+pub call-turned : (d : Desk) (call : Call) {next : Next} → next ≡ step d call → calling d call [] ≡ turned next 0 []
+call-turned d call e = rw e
+
+-- a sweep
+taken : (accepted : Bool) (number : ℕ) (slice : List ℕ)
+    → cond accepted (take number slice) [] ≡ take (cond accepted number 0) slice
+taken true number slice = refl
+taken false number slice = refl
+
+pub sweep-turned : (d : Desk) (call : Call) {next : Next} {slice : List ℕ}
+    → next ≡ step d call
+    → slice ≡ sliceAfter d call
+    → sweeping d call ≡ turned next (sweptCount (next .answer)) slice
+sweep-turned d call e s = rw (e, s, taken (eqb (step d call .answer .code) 0))
+
+-- ---- no more tickets are printed than a word has places
+
+accepted-few : (code number when : ℕ) (accepted : Bool) → eqb code 0 ≡ accepted → number ≤ 64 → sweptCount (answered code number when) ≤ 64
+unfolding answered
+accepted-few code number when true e few = simp e few
+accepted-few code number when false e few = refused (eqb code 12)
+  where
+    refused : (twelve : Bool)
+        → sweptCount (cond (eqb code 0) (answer code number when) (cond twelve (answer code number 0) (answer code 0 0))) ≤ 64
+    refused true = simp e zero-le
+    refused false = simp e zero-le
+
+count-few : (w : ℕ) → count w ≤ 64
+unfolding count
+count-few w = count-le (has w) 64
+
+sweep-few : (d : Desk) (call : Call) → value d call ≤ 64 → sweptCount (step d call .answer) ≤ 64
+unfolding step outcome
+sweep-few d call few = accepted-few (refusal (checks d call)) (value d call) (time d call) (eqb (refusal (checks d call)) 0) refl few
+
+weak-few : (d : Desk) (slice : List ℕ) → value d (weak-sweep slice) ≤ 64
+unfolding value
+weak-few d slice = count-few _
+
+strong-few : (d : Desk) (slice : List ℕ) → value d (strong-sweep slice) ≤ 64
+unfolding value
+strong-few d slice = count-few _
+
+pub tickets-few : (d : Desk) (line : Line) → ticketCount line (turnBy d line .answer) ≤ 64
+unfolding ticketCount turnBy
+tickets-few d (Channel thread) = zero-le
+tickets-few d (NewThread thread time) = zero-le
+tickets-few d (AttachInput thread channel) = zero-le
+tickets-few d (AttachOutput thread channel) = zero-le
+tickets-few d (Detach thread connection) = zero-le
+tickets-few d (End thread) = zero-le
+tickets-few d (Set thread time) = zero-le
+tickets-few d (Put thread connection timestamp ticket) = zero-le
+tickets-few d (GetEarliest thread connection) = zero-le
+tickets-few d (GetLatest thread connection) = zero-le
+tickets-few d (GetNamed thread connection timestamp) = zero-le
+tickets-few d (Consume thread connection timestamp) = zero-le
+tickets-few d (ConsumeUntil thread connection timestamp) = zero-le
+tickets-few d WeakSweep = sweep-few d (weak-sweep slice) (weak-few d slice)
+tickets-few d StrongSweep = sweep-few d (strong-sweep slice) (strong-few d slice)
+tickets-few d Unreadable = zero-le
+
+-- ---- a line that was read, run and answered is a turn, written
+
+pub turn-written : (d : Desk) (line : List ℕ) (asked : Line) (next : Next) (tickets : List ℕ) (number : ℕ) (out : List ℕ) (at : ℕ) (after : List ℕ) (end : ℕ)
+    → asked ≡ readLine line
+    → turnBy d asked ≡ turned next (ticketCount asked (next .answer)) tickets
+    → number ≡ ticketCount asked (next .answer)
+    → length tickets ≡ 64
+    → at + 1407 ≤ length out
+    → (end ≡ cond (hasRoom at (length out) number (length tickets)) (at + length (answerText (next .answer .code) (next .answer .value) (next .answer .time) (take number tickets))) at)
+    × (after ≡ cond (hasRoom at (length out) number (length tickets)) (written out at (answerText (next .answer .code) (next .answer .value) (next .answer .time) (take number tickets))) out)
+    → (next .desk ≡ turn d line .desk) × (end ≡ at + length (printed (turn d line))) × (after ≡ written out at (printed (turn d line)))
+turn-written d line asked next tickets number out at after end read ran counted long fits wrote =
+    let few : number ≤ 64 = rw counted (rw ran at (tickets-few d asked)) in
+    let there : number ≤ length tickets = omega arith in
+    let told = rw (room at (length out) number (length tickets) fits few there) at wrote in
+    rw (← read, ran, ← counted) (refl, told .0, told .1)

@@ -1,0 +1,218 @@
+// A session: lines of bytes in, lines of answers out, over one desk.
+ghost use mathlib.Core.Path.{_≡_};
+ghost use mathlib.Core.List.{[], _++_};
+ghost use mathlib.Core.Bool.{cond};
+ghost use Prim.Native.Nat.{_+_, _≤_, min};
+ghost use lib.Dec.{ltb};
+ghost use lib.ListN.{drop, length, replicate, take};
+ghost use Rattle.text.specs.Text.{written};
+ghost use Rattle.session.specs.Turns.{printed, turn, turnBy};
+ghost use Rattle.session.specs.Tickets.{sweptCount, ticketCount};
+ghost use Rattle.session.specs.Stream.{printedAtEnd, printedFor, readerAfter, start, usedOf, waits};
+use desk::Desk;
+use desk::Next;
+use lines::Line;
+use rows::Answer;
+use rows::Which;
+
+// The places that the longest answer can take.
+const LONGEST_ANSWER: usize = 1407;
+
+// The code of a line that is not readable.
+const UNREADABLE: u32 = 99;
+
+// A line of 81 bytes is overlong, so no more of a line is kept.
+const KEPT: usize = 81;
+
+// The desk, and what was read of a line that has not ended.
+pub struct Reader {
+    pub desk: Desk,
+    pub line: [u8; 81],
+    pub held: usize,
+}
+
+// What became of a part of the input: the reader after it, how many of its bytes were used, and how many bytes were written.
+pub struct Fed {
+    pub reader: Reader,
+    pub used: usize,
+    pub written: usize,
+}
+
+// The desk after a line, and the place after its answer.
+struct Turned {
+    desk: Desk,
+    at: usize,
+}
+
+// The call that a line asks for. A sweep hands its tickets back in the slice.
+fn run(desk: Desk, line: Line, slice: &mut [u64]) -> Next
+    requires { ⌜ now slice ≡ replicate 64 0 ⌝ }
+    ensures { λ r. ⌜ (
+        turnBy desk line ≡ record { answer = r .answer; tickets = take (ticketCount line (r .answer)) (now (slice .exit)); desk = r .desk }
+        ) ⌝ }
+{
+    match line {
+        Line::Channel(thread) => desk.channel(thread),
+        Line::NewThread(thread, time) => desk.new_thread(thread, time),
+        Line::AttachInput(thread, channel) => desk.attach_input(thread, channel),
+        Line::AttachOutput(thread, channel) => desk.attach_output(thread, channel),
+        Line::Detach(thread, connection) => desk.detach(thread, connection),
+        Line::End(thread) => desk.end(thread),
+        Line::Set(thread, time) => desk.set(thread, time),
+        Line::Put(thread, connection, timestamp, ticket) => {
+            desk.put(thread, connection, timestamp, ticket)
+        }
+        Line::GetEarliest(thread, connection) => desk.get(thread, connection, Which::Earliest),
+        Line::GetLatest(thread, connection) => desk.get(thread, connection, Which::Latest),
+        Line::GetNamed(thread, connection, timestamp) => {
+            desk.get(thread, connection, Which::Named(timestamp))
+        }
+        Line::Consume(thread, connection, timestamp) => desk.consume(thread, connection, timestamp),
+        Line::ConsumeUntil(thread, connection, timestamp) => {
+            desk.consume_until(thread, connection, timestamp)
+        }
+        Line::WeakSweep => desk.weak_sweep(slice),
+        Line::StrongSweep => desk.strong_sweep(slice),
+        Line::Unreadable => {
+            let answer = Answer::with_code(UNREADABLE, 0, 0);
+            Next { answer, desk }
+        }
+    }
+}
+
+// How many tickets a sweep with this answer has handed back: a refused one has handed back none, whatever its value.
+fn swept_count(answer: Answer) -> u64
+    ensures { λ r. ⌜ r ≡ sweptCount answer ⌝ }
+{
+    if answer.code == 0 { answer.value } else { 0 }
+}
+
+// How many tickets are printed after the answer to a line.
+fn ticket_count(line: Line, answer: Answer) -> u64
+    ensures { λ r. ⌜ r ≡ ticketCount line answer ⌝ }
+{
+    match line {
+        Line::WeakSweep => swept_count(answer),
+        Line::StrongSweep => swept_count(answer),
+        _ => 0,
+    }
+}
+
+// One line: its call on the desk, and its answer written from `at` on.
+fn take_turn(desk: Desk, line: &[u8], out: &mut [u8], at: usize) -> Turned
+    requires { ⌜ at + 1407 ≤ length (now out) ⌝ }
+    ensures { λ r. ⌜ (
+        let taken = turn desk (now (line .entry)) in
+        (r .desk ≡ taken .desk)
+        × (r .at ≡ at + length (printed taken))
+        × (now (out .exit) ≡ written (now (out .entry)) at (printed taken))
+        ) ⌝ }
+{
+    let mut slice = [0u64; 64];
+    let asked = lines::read(line);
+    let next = run(desk, asked, &mut slice);
+    let answer = next.answer;
+    let count = ticket_count(asked, answer) as usize;
+    let end = text::write_answer(
+        out,
+        at,
+        answer.code,
+        answer.value,
+        answer.time,
+        &slice,
+        count,
+    );
+    let after = next.desk;
+    Turned {
+        desk: after,
+        at: end,
+    }
+}
+
+// How many bytes of the line are there: a reader may say that it holds more than a line keeps.
+fn kept(held: usize) -> usize
+    ensures { λ r. ⌜ r ≡ min held 81 ⌝ }
+{
+    if held < KEPT { held } else { KEPT }
+}
+
+// Whether a byte has to wait for room: a newline where the longest answer might not fit.
+fn must_wait(byte: u8, room: usize) -> bool
+    ensures { λ r. ⌜ r ≡ waits byte room ⌝ }
+{
+    if byte != b'\n' {
+        return false;
+    }
+    room < LONGEST_ANSWER
+}
+
+// The start of a session.
+pub fn started() -> Reader
+    ensures { λ r. ⌜ r ≡ start ⌝ }
+{
+    Reader {
+        desk: Desk::fresh(),
+        line: [0u8; 81],
+        held: 0,
+    }
+}
+
+// Reads a part of the input and writes the answers to the front of out. It stops at a newline where the longest answer might not fit:
+// what is left of the part is to be fed again, with out written away.
+pub fn feed(reader: Reader, part: &[u8], out: &mut [u8]) -> Fed
+    ensures { λ r. ⌜ (
+        let used = usedOf reader (now (part .entry)) (length (now (out .entry))) in
+        let text = printedFor reader (take used (now (part .entry))) in
+        (r .used ≡ used)
+        × (r .reader ≡ readerAfter reader (take used (now (part .entry))))
+        × (r .written ≡ length text)
+        × (now (out .exit) ≡ text ++ drop (length text) (now (out .entry)))
+        ) ⌝ }
+{
+    let mut desk = reader.desk;
+    let mut line = reader.line;
+    let mut held = reader.held;
+    let mut at = 0;
+    let mut i = 0;
+    while i < part.len() {
+        let byte = part[i];
+        if must_wait(byte, out.len() - at) {
+            break;
+        }
+        i += 1;
+        if byte == b'\n' {
+            let turned = take_turn(desk, &line[..kept(held)], out, at);
+            desk = turned.desk;
+            at = turned.at;
+            held = 0;
+        } else if held < KEPT {
+            line[held] = byte;
+            held += 1;
+        }
+    }
+    Fed {
+        reader: Reader { desk, line, held },
+        used: i,
+        written: at,
+    }
+}
+
+// The end of the input: answers a last line that lacks its newline. Where the longest answer might not fit in out, nothing is written.
+pub fn finish(reader: Reader, out: &mut [u8]) -> usize
+    ensures { λ r. ⌜ (
+        let text = cond (ltb (length (now (out .entry))) 1407) [] (printedAtEnd reader) in
+        (r ≡ length text) × (now (out .exit) ≡ text ++ drop (length text) (now (out .entry)))
+        ) ⌝ }
+{
+    if out.len() < LONGEST_ANSWER {
+        return 0;
+    }
+    let held = reader.held;
+    if held == 0 {
+        return 0;
+    }
+    let line = reader.line;
+    let desk = reader.desk;
+    let turned = take_turn(desk, &line[..kept(held)], out, 0);
+    turned.at
+}

@@ -1,0 +1,5 @@
+pub mod Digits
+pub mod Stores
+pub mod Room
+pub mod Laws
+pub mod Examples

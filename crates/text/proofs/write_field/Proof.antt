@@ -1,0 +1,29 @@
+-- `text::write_field` meets its contract. Assumes nothing.
+use mathlib.Core.Path.{_∙_}
+use native.Mathlib.Omega.{arith}
+use lib.ListN.{length-set}
+use Rattle.text.specs.Text.{fieldText}
+use Rattle.text.proofs.Stores.{next, one-wrote}
+use borrow.Author.Needs.{needs}
+use Rattle.text.proofs.write_field.Statement.{statement}
+use Rattle.text.proofs.write_field.Tie as tie
+
+slice-write-out : tie.Need-slice-write-out
+slice-write-out c = search needs
+
+add-write-number : tie.Need-add-write-number
+add-write-number c = search needs
+
+write-number-requires : tie.Need-write-number-requires
+write-number-requires c κs = simp length-set (omega arith)
+
+same-length : tie.Need-same-length
+same-length c = c .before .before .write-number .kept .0 ∙ simp length-set
+
+returns : tie.Need-returns
+unfolding fieldText
+returns c = (next (one-wrote _ _ 32) (c .before .before .write-number .ensures .0), omega arith)
+
+pub write-field-spec : {M : Type 1} → statement M
+write-field-spec =
+    tie.close (tie.spec slice-write-out add-write-number write-number-requires same-length returns)

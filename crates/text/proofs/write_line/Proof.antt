@@ -1,0 +1,53 @@
+-- `text::write_line` meets its contract. Assumes nothing.
+use native.Mathlib.Omega.{arith}
+use lib.ListN.{length-set}
+use Rattle.text.specs.Text.{answerText}
+use Rattle.text.proofs.Stores.{next, one-wrote}
+use borrow.Author.Needs.{needs}
+use Rattle.text.proofs.write_line.Statement.{statement}
+use Rattle.text.proofs.write_line.Tie as tie
+
+write-number-requires : tie.Need-write-number-requires
+write-number-requires c κs = search needs
+
+write-field-requires : tie.Need-write-field-requires
+write-field-requires c κs = search needs
+
+write-field-requires-2 : tie.Need-write-field-requires-2
+write-field-requires-2 c κs = search needs
+
+write-fields-requires : tie.Need-write-fields-requires
+write-fields-requires c κs = search needs
+
+slice-write-out : tie.Need-slice-write-out
+slice-write-out c = search needs
+
+add-result : tie.Need-add-result
+add-result c = search needs
+
+same-length : tie.Need-same-length
+same-length c = simp length-set (omega arith)
+
+returns : tie.Need-returns
+unfolding answerText
+returns c =
+    let tickets-done = c .before .before in
+    let time-done = tickets-done .before .before .before .before in
+    let value-done = time-done .before .before .before .before in
+    let code-done = value-done .before .before .before .before in
+    let code-value = next (code-done .write-number .ensures .0) (value-done .write-field .ensures .0) in
+    let numbers = next code-value (time-done .write-field2 .ensures .0) in
+    (next (next numbers (tickets-done .write-fields .ensures .0)) (one-wrote _ _ 10), omega arith)
+
+pub write-line-spec : {M : Type 1} → statement M
+write-line-spec =
+    tie.close
+    (tie.spec
+    write-number-requires
+    write-field-requires
+    write-field-requires-2
+    write-fields-requires
+    slice-write-out
+    add-result
+    same-length
+    returns)
