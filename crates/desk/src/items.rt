@@ -32,7 +32,7 @@ fn is_given(which: Which) -> bool
     match which {
         Which::Earliest => true,
         Which::Latest => true,
-        Which::Named(timestamp) => timestamp < Desk::NEVER,
+        Which::Named(timestamp) => timestamp <= Desk::LARGEST_TIMESTAMP,
     }
 }
 
