@@ -1,11 +1,11 @@
 -- A part of the input, byte by byte: what is known after some of its bytes, and what one byte more makes of it. Assumes nothing.
 use Prim.Native.Nat.{ℕ, suc, _+_, _-_, _≤_, _<_, min}
 use mathlib.Core.Path.{_≡_, refl, ap, sym, _∙_}
-use mathlib.Core.Bool.{Bool, true, false, cond}
+use mathlib.Core.Bool.{Bool, true, false}
 use mathlib.Core.List.{List, [], _∷_, _++_, append-assoc, append-nil}
 use native.Mathlib.Numerals.{add-one, unary-clauses}
 use native.Mathlib.Omega.{arith}
-use borrow.Author.Tests.{le-ltb, ne-eqb, ltb-true, ltb-false}
+use borrow.Author.Tests.{le-ltb, lt-ltb, ne-eqb, ltb-true, ltb-false}
 use lib.Dec.{eqb, ltb}
 use lib.ListN.{length, take, drop, getD, length-append, length-drop, drop-of-length-le, take-append-drop}
 use lib.Seq.{drop-cons, take-suc, take-all, take-at, drop-append-add, drop-drop}
@@ -17,11 +17,13 @@ use Rattle.session.specs.Stream.{reader, lineSoFar, joined, readByte, pr
 
 -- ---- one part more, and one byte more
 
+-- the reader after two parts is the one that the second part makes of the reader after the first
 pub reader-append : (r : Reader) (bytes more : List ℕ) → readerAfter r (bytes ++ more) ≡ readerAfter (readerAfter r bytes) more
 unfolding readerAfter
 reader-append r [] more = refl
 reader-append r (byte ∷ bytes) more = reader-append (readByte r byte) bytes more
 
+-- what two parts print is what the first prints, and then what the second prints for the reader after the first
 pub printed-append : (r : Reader) (bytes more : List ℕ)
     → printedFor r (bytes ++ more) ≡ printedFor r bytes ++ printedFor (readerAfter r bytes) more
 unfolding readerAfter printedFor
@@ -29,27 +31,28 @@ printed-append r [] more = refl
 printed-append r (byte ∷ bytes) more =
     rw (printed-append (readByte r byte) bytes more) (sym (append-assoc (printedBy r byte) _ _))
 
+-- the reader after one byte more
 reader-more : (r : Reader) (bytes : List ℕ) (byte : ℕ) → readerAfter r (bytes ++ (byte ∷ [])) ≡ readByte (readerAfter r bytes) byte
 unfolding readerAfter
 reader-more r bytes byte = reader-append r bytes (byte ∷ [])
 
+-- what is printed with one byte more
 printed-more : (r : Reader) (bytes : List ℕ) (byte : ℕ)
     → printedFor r (bytes ++ (byte ∷ [])) ≡ printedFor r bytes ++ printedBy (readerAfter r bytes) byte
 unfolding printedFor
 printed-more r bytes byte = printed-append r bytes (byte ∷ []) ∙ rw append-nil
 
+-- a byte that does not wait is used, and the rest of the part has what room its text leaves
 used-more : (r : Reader) (byte : ℕ) (bytes : List ℕ) (room : ℕ)
     → waits byte room ≡ false
     → usedOf r (byte ∷ bytes) room ≡ suc (usedOf (readByte r byte) bytes (room - length (printedBy r byte)))
 unfolding usedOf
 used-more r byte bytes room goes = rw goes
 
+-- where the next byte waits, none is used
 used-waiting : (r : Reader) (byte : ℕ) (bytes : List ℕ) (room : ℕ) → waits byte room ≡ true → usedOf r (byte ∷ bytes) room ≡ 0
 unfolding usedOf
 used-waiting r byte bytes room waiting = rw waiting
-
-pub goes-on : (byte room : ℕ) → eqb byte 10 ≡ true → waits byte room ≡ false → 1407 ≤ room
-goes-on byte room newline goes = ltb-false room 1407 (rw newline at goes)
 
 -- ---- after i bytes of the part, with the text so far in the first `at` places of out
 
@@ -60,14 +63,17 @@ pub record Fed (first : Reader) (part before : List ℕ) (r : Reader) (i at : �
   pub bytes : out ≡ printedFor first (take i part) ++ drop at before
   pub room : at ≤ length before
 
+-- before the first byte
 pub fed-none : (first : Reader) (part before : List ℕ) → Fed first part before first 0 0 before
 unfolding readerAfter printedFor
 fed-none first part before = record { used = simp unary-clauses (omega arith); reads = refl; place = refl; bytes = refl; room = omega arith }
 
 module _ (first : Reader) (part before : List ℕ) (r : Reader) (i at : ℕ) (out : List ℕ) (fed : Fed first part before r i at out) where
+  -- out has as many places as before
   pub fed-length : length out ≡ length before
   fed-length = ap length (fed .bytes) ∙ simp (length-append, length-drop) (omega (arith, fed .place, fed .room))
 
+  -- what is printed so far
   abbrev text : List ℕ
   text = printedFor first (take i part)
 
@@ -79,10 +85,12 @@ module _ (first : Reader) (part before : List ℕ) (r : Reader) (i at : ℕ) (ou
       ∙ drop-append-add text (drop at before) k
       ∙ drop-drop k at before
 
+  -- and its first places hold that text
   front : take at out ≡ text
   front = ap (take at) (fed .bytes) ∙ take-at text (drop at before) at (sym (fed .place))
 
   module _ (byte : ℕ) (more : i < length part) (is : byte ≡ getD part i 0) where
+    -- one byte more that does not wait, with its text written
     fed-byte : (end : ℕ) (after : List ℕ)
         → waits byte (length before - at) ≡ false
         → end ≡ at + length (printedBy r byte)
@@ -108,7 +116,7 @@ module _ (first : Reader) (part before : List ℕ) (r : Reader) (i at : ℕ) (ou
           room = fits;
         }
 
-    -- a byte that joins the line
+    -- a byte that is no newline joins the line, and out stays
     pub fed-joins : eqb byte 10 ≡ false → Fed first part before (joined r byte) (i + 1) at out
     unfolding readByte printedBy
     fed-joins other =
@@ -118,17 +126,18 @@ module _ (first : Reader) (part before : List ℕ) (r : Reader) (i at : ℕ) (ou
         let none-long : length (printedBy r byte) ≡ 0 = ap length none in
         rw joins at (fed-byte at out (rw other) (omega arith) (fed .room) stays)
 
-    -- a newline that ends it
+    -- a newline where the longest answer fits ends the line: its turn is taken, and its answer stands in out
     pub fed-ends : (line : List ℕ) (desk : Desk) (end : ℕ) (after : List ℕ)
         → line ≡ lineSoFar r
         → eqb byte 10 ≡ true
-        → waits byte (length out - at) ≡ false
+        → at + 1407 ≤ length out
         → length after ≡ length out
         → (desk ≡ turn (r .desk) line .desk) × (end ≡ at + length (printed (turn (r .desk) line))) × (after ≡ written out at (printed (turn (r .desk) line)))
         → Fed first part before (reader desk (r .line) 0) (i + 1) end after
     unfolding readByte printedBy written
-    fed-ends line desk end after whole newline goes same turned =
+    fed-ends line desk end after whole newline fits same turned =
         let told = rw whole at turned in
+        let enough : 1407 ≤ length before - at = omega (arith, fed-length) in
         let says : printedBy r byte ≡ printed (turn (r .desk) (lineSoFar r)) = rw newline in
         let next : readByte r byte ≡ reader desk (r .line) 0 = rw (newline, told .0) in
         let ends : end ≡ at + length (printedBy r byte) = rw says (told .1) in
@@ -136,19 +145,22 @@ module _ (first : Reader) (part before : List ℕ) (r : Reader) (i at : ℕ) (ou
         let long : length (take at out ++ printedBy r byte ++ drop end out) ≡ length out = sym (ap length wrote) ∙ same in
         let parts = rw (length-append, length-append, front, length-drop) at long in
         let room : end ≤ length before = omega (arith, fed-length, fed .place) in
-        rw next at (fed-byte end after (rw fed-length at goes) ends room wrote)
+        rw next at (fed-byte end after (rw (newline, le-ltb _ 1407 enough)) ends room wrote)
 
-  -- all bytes are used, or a newline waits
+  -- after the last byte, all bytes are used
   pub fed-all : length part ≤ i → i ≡ usedOf first part (length before)
   unfolding usedOf
   fed-all all =
       let none = rw (drop-of-length-le part all) at (fed .used) in
       omega arith
 
-  pub fed-waits : (byte : ℕ) → i < length part → byte ≡ getD part i 0 → waits byte (length out - at) ≡ true → i ≡ usedOf first part (length before)
-  fed-waits byte more is waiting =
+  -- at a newline where the longest answer might not fit, the bytes before it are used
+  pub fed-waits : (byte : ℕ) → i < length part → byte ≡ getD part i 0 → eqb byte 10 ≡ true → length out - at < 1407 → i ≡ usedOf first part (length before)
+  fed-waits byte more is newline short =
+      let scarce : length before - at < 1407 = rw fed-length at short in
+      let waiting : waits byte (length before - at) ≡ true = rw (newline, lt-ltb _ 1407 scarce) in
       let parted : drop i part ≡ byte ∷ drop (i + 1) part = rw (add-one, is) (drop-cons part i 0 more) in
-      let none = rw (parted, used-waiting r byte (drop (i + 1) part) (length before - at) (rw fed-length at waiting)) at (fed .used) in
+      let none = rw (parted, used-waiting r byte (drop (i + 1) part) (length before - at) waiting) at (fed .used) in
       omega arith
 
   -- what `feed` promises, once the bytes used are known
@@ -161,30 +173,24 @@ module _ (first : Reader) (part before : List ℕ) (r : Reader) (i at : ℕ) (ou
 
 -- ---- the bytes of a line that are there
 
-by-test : (line : List ℕ) (held : ℕ) (test : Bool) → ltb held 81 ≡ test → length line ≡ 81 → take (min held 81) line ≡ take held line
-by-test line held true small long =
-    let least : min held 81 ≡ held = omega (arith, ltb-true held 81 small) in
-    rw least
-by-test line held false large long =
-    let most : min held 81 ≡ 81 = omega (arith, ltb-false held 81 large) in
-    rw most (take-all 81 line (omega arith) ∙ sym (take-all held line (omega (arith, ltb-false held 81 large))))
+-- a line has 81 places, so no more than 81 bytes of it are there, whatever number is held
+pub kept-line : (line : List ℕ) (held number : ℕ) → number ≡ min held 81 → length line ≡ 81 → take number line ≡ take held line
+kept-line line held number is long = rw is (by-test (ltb held 81) refl)
+  where
+    by-test : (test : Bool) → ltb held 81 ≡ test → take (min held 81) line ≡ take held line
+    by-test true small =
+        let least : min held 81 ≡ held = omega (arith, ltb-true held 81 small) in
+        rw least
+    by-test false large =
+        let most : min held 81 ≡ 81 = omega (arith, ltb-false held 81 large) in
+        rw most (take-all 81 line (omega arith) ∙ sym (take-all held line (omega (arith, ltb-false held 81 large))))
 
-pub kept-line : (line : List ℕ) (held : ℕ) → length line ≡ 81 → take (min held 81) line ≡ take held line
-kept-line line held long = by-test line held (ltb held 81) refl long
+-- ---- the end of the input
 
--- ---- the end of the input, where the last line lacks its newline
-
-pub finished : (r : Reader) (line before after : List ℕ) (end : ℕ)
-    → line ≡ lineSoFar r
+-- where the longest answer fits, a newline alone is used, and prints what the end of the input prints for a line that lacks it
+pub finished : (r : Reader) (room : ℕ)
     → (r .held ≡ 0 → ⊥)
-    → 1407 ≤ length before
-    → end ≡ 0 + length (printed (turn (r .desk) line))
-    → after ≡ written before 0 (printed (turn (r .desk) line))
-    → (end ≡ length (cond (ltb (length before) 1407) [] (printedAtEnd r)))
-    × (after ≡ cond (ltb (length before) 1407) [] (printedAtEnd r) ++ drop (length (cond (ltb (length before) 1407) [] (printedAtEnd r))) before)
-unfolding printedAtEnd written
-finished r line before after end is some fits ends wrote =
-    let ahead : 0 + length (printed (turn (r .desk) line)) ≡ length (printed (turn (r .desk) line)) = omega arith in
-    let place = rw (ahead, is) at ends in
-    let bytes = rw (ahead, is) at wrote in
-    rw (le-ltb (length before) 1407 fits, ne-eqb (r .held) 0 some) (place, bytes)
+    → 1407 ≤ room
+    → printedFor r (take (usedOf r (10 ∷ []) room) (10 ∷ [])) ≡ printedAtEnd r
+unfolding usedOf printedFor printedBy printedAtEnd
+finished r room some fits = rw (le-ltb room 1407 fits, ne-eqb (r .held) 0 some) (append-nil _)

@@ -28,12 +28,13 @@ turned next number slice = record { answer = next .answer; tickets = take number
 pub call-turned : (d : Desk) (call : Call) {next : Next} → next ≡ step d call → calling d call [] ≡ turned next 0 []
 call-turned d call e = rw e
 
--- a sweep
+-- the tickets of an accepted sweep, and none of a refused one, are the first so many of the slice
 taken : (accepted : Bool) (number : ℕ) (slice : List ℕ)
     → cond accepted (take number slice) [] ≡ take (cond accepted number 0) slice
 taken true number slice = refl
 taken false number slice = refl
 
+-- a sweep, which hands its tickets back in the slice
 pub sweep-turned : (d : Desk) (call : Call) {next : Next} {slice : List ℕ}
     → next ≡ step d call
     → slice ≡ sliceAfter d call
@@ -42,6 +43,7 @@ sweep-turned d call e s = rw (e, s, taken (eqb (step d call .answer .code) 0))
 
 -- ---- no more tickets are printed than a word has places
 
+-- of an answer whose value is 64 at most: accepted, its tickets are as many as its value; refused, there are none
 accepted-few : (code number when : ℕ) (accepted : Bool) → eqb code 0 ≡ accepted → number ≤ 64 → sweptCount (answered code number when) ≤ 64
 unfolding answered
 accepted-few code number when true e few = simp e few
@@ -52,14 +54,17 @@ accepted-few code number when false e few = refused (eqb code 12)
     refused true = simp e zero-le
     refused false = simp e zero-le
 
+-- a word has at most 64 of its places set
 count-few : (w : ℕ) → count w ≤ 64
 unfolding count
 count-few w = count-le (has w) 64
 
+-- a sweep prints at most 64 tickets, if its value is 64 at most
 sweep-few : (d : Desk) (call : Call) → value d call ≤ 64 → sweptCount (step d call .answer) ≤ 64
 unfolding step outcome
 sweep-few d call few = accepted-few (refusal (checks d call)) (value d call) (time d call) (eqb (refusal (checks d call)) 0) refl few
 
+-- the value of a sweep, how many items leave, is 64 at most
 weak-few : (d : Desk) (slice : List ℕ) → value d (weak-sweep slice) ≤ 64
 unfolding value
 weak-few d slice = count-few _
@@ -68,6 +73,7 @@ strong-few : (d : Desk) (slice : List ℕ) → value d (strong-sweep slice) ≤ 
 unfolding value
 strong-few d slice = count-few _
 
+-- whatever the line, at most 64 tickets are printed for it
 pub tickets-few : (d : Desk) (line : Line) → ticketCount line (turnBy d line .answer) ≤ 64
 unfolding ticketCount turnBy
 tickets-few d (Channel thread) = zero-le
@@ -87,8 +93,10 @@ tickets-few d WeakSweep = sweep-few d (weak-sweep slice) (weak-few d slice)
 tickets-few d StrongSweep = sweep-few d (strong-sweep slice) (strong-few d slice)
 tickets-few d Unreadable = zero-le
 
--- ---- a line that was read, run and answered is a turn, written
+-- ---- a line that was read, run and answered
 
+-- from what reading it, running its call, counting its tickets and writing its answer promise, with room for the longest answer:
+-- the next desk, the place behind the answer and the bytes of out are those of its turn
 pub turn-written : (d : Desk) (line : List ℕ) (asked : Line) (next : Next) (tickets : List ℕ) (number : ℕ) (out : List ℕ) (at : ℕ) (after : List ℕ) (end : ℕ)
     → asked ≡ readLine line
     → turnBy d asked ≡ turned next (ticketCount asked (next .answer)) tickets

@@ -2,13 +2,12 @@
 ghost use mathlib.Core.Path.{_≡_};
 ghost use mathlib.Core.List.{[], _++_};
 ghost use mathlib.Core.Bool.{cond};
-ghost use Prim.Native.Nat.{_+_, _≤_, min};
+ghost use Prim.Native.Nat.{min};
 ghost use lib.Dec.{ltb};
 ghost use lib.ListN.{drop, length, replicate, take};
-ghost use Rattle.text.specs.Text.{written};
-ghost use Rattle.session.specs.Turns.{printed, turn, turnBy};
+ghost use Rattle.session.specs.Turns.{turnBy};
 ghost use Rattle.session.specs.Tickets.{sweptCount, ticketCount};
-ghost use Rattle.session.specs.Stream.{printedAtEnd, printedFor, readerAfter, start, usedOf, waits};
+ghost use Rattle.session.specs.Stream.{printedAtEnd, printedFor, readerAfter, start, usedOf};
 use desk::Desk;
 use desk::Next;
 use lines::Line;
@@ -36,12 +35,6 @@ pub struct Fed {
     pub reader: Reader,
     pub used: usize,
     pub written: usize,
-}
-
-// The desk after a line, and the place after its answer.
-struct Turned {
-    desk: Desk,
-    at: usize,
 }
 
 // The call that a line asks for. A sweep hands its tickets back in the slice.
@@ -98,52 +91,11 @@ fn ticket_count(line: Line, answer: Answer) -> u64
     }
 }
 
-// One line: its call on the desk, and its answer written from `at` on.
-fn take_turn(desk: Desk, line: &[u8], out: &mut [u8], at: usize) -> Turned
-    requires { ⌜ at + 1407 ≤ length (now out) ⌝ }
-    ensures { λ r. ⌜ (
-        let taken = turn desk (now (line .entry)) in
-        (r .desk ≡ taken .desk)
-        × (r .at ≡ at + length (printed taken))
-        × (now (out .exit) ≡ written (now (out .entry)) at (printed taken))
-        ) ⌝ }
-{
-    let mut slice = [0u64; 64];
-    let asked = lines::read(line);
-    let next = run(desk, asked, &mut slice);
-    let answer = next.answer;
-    let count = ticket_count(asked, answer) as usize;
-    let end = text::write_answer(
-        out,
-        at,
-        answer.code,
-        answer.value,
-        answer.time,
-        &slice,
-        count,
-    );
-    let after = next.desk;
-    Turned {
-        desk: after,
-        at: end,
-    }
-}
-
 // How many bytes of the line are there: a reader may say that it holds more than a line keeps.
 fn kept(held: usize) -> usize
     ensures { λ r. ⌜ r ≡ min held 81 ⌝ }
 {
     if held < KEPT { held } else { KEPT }
-}
-
-// Whether a byte has to wait for room: a newline where the longest answer might not fit.
-fn must_wait(byte: u8, room: usize) -> bool
-    ensures { λ r. ⌜ r ≡ waits byte room ⌝ }
-{
-    if byte != b'\n' {
-        return false;
-    }
-    room < LONGEST_ANSWER
 }
 
 // The start of a session.
@@ -176,18 +128,33 @@ pub fn feed(reader: Reader, part: &[u8], out: &mut [u8]) -> Fed
     let mut i = 0;
     while i < part.len() {
         let byte = part[i];
-        if must_wait(byte, out.len() - at) {
-            break;
-        }
-        i += 1;
-        if byte == b'\n' {
-            let turned = take_turn(desk, &line[..kept(held)], out, at);
-            desk = turned.desk;
-            at = turned.at;
+        if byte != b'\n' {
+            i += 1;
+            if held < KEPT {
+                line[held] = byte;
+                held += 1;
+            }
+        } else {
+            if out.len() - at < LONGEST_ANSWER {
+                break;
+            }
+            i += 1;
+            let mut slice = [0u64; 64];
+            let asked = lines::read(&line[..kept(held)]);
+            let next = run(desk, asked, &mut slice);
+            desk = next.desk;
+            let answer = next.answer;
+            let count = ticket_count(asked, answer) as usize;
+            at = text::write_answer(
+                out,
+                at,
+                answer.code,
+                answer.value,
+                answer.time,
+                &slice,
+                count,
+            );
             held = 0;
-        } else if held < KEPT {
-            line[held] = byte;
-            held += 1;
         }
     }
     Fed {
@@ -207,12 +174,10 @@ pub fn finish(reader: Reader, out: &mut [u8]) -> usize
     if out.len() < LONGEST_ANSWER {
         return 0;
     }
-    let held = reader.held;
-    if held == 0 {
+    if reader.held == 0 {
         return 0;
     }
-    let line = reader.line;
-    let desk = reader.desk;
-    let turned = take_turn(desk, &line[..kept(held)], out, 0);
-    turned.at
+    // A last line that lacks its newline is answered as if it had one.
+    let fed = feed(reader, b"\n", out);
+    fed.written
 }
