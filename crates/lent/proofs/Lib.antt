@@ -1,0 +1,5 @@
+-- The laws that the proofs of the lent calls share.
+pub mod Parameters
+pub mod Lent
+pub mod Swept
+pub mod Asked

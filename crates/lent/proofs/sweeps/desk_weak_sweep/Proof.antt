@@ -1,0 +1,14 @@
+-- `lent::sweeps::desk_weak_sweep` meets its contract, by the law of a lent call with a lent slice (`Swept.antt`), at `desk::Desk::weak_sweep`.
+use Rattle.desk.specs.Calls.{Call}
+use Rattle.lent.proofs.Swept.{swept-of}
+use Rattle.desk.proofs.Desk.weak_sweep.Symbol as callee
+use Rattle.desk.proofs.Desk.weak_sweep.Met as proved
+use Rattle.lent.proofs.sweeps.desk_weak_sweep.Key.{name}
+use Rattle.lent.proofs.sweeps.desk_weak_sweep.Statement.{statement}
+use Rattle.lent.proofs.sweeps.desk_weak_sweep.Code as code
+
+pub desk-weak-sweep-spec : {M : Type 1} → statement M
+unfolding code.routine
+desk-weak-sweep-spec 𝓤 H 𝓜 𝓖 𝓡 =
+    swept-of Call.weak-sweep 𝓤 H 𝓜 𝓖 𝓡 code.env name callee.name callee.routine
+    code.calls-desk·Desk·weak-sweep (code.unfolded 𝓤 H 𝓜 𝓡) (proved.met 𝓤 H 𝓜 𝓖 𝓡)
