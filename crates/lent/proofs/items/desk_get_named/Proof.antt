@@ -1,9 +1,9 @@
 -- `lent::items::desk_get_named` meets its contract, by the law of a lent call (`Lent.antt`), at `named`.
 use mathlib.Core.List.{[], _∷_}
+use package.mir.Syntax.{w32}
 use Rattle.rows.specs.declared.Which.the-variants.{Named}
 use Rattle.desk.specs.Calls.{Call}
 use Rattle.lent.proofs.Lent.{lent-of}
-use Rattle.lent.proofs.Parameters.{u32-par}
 use Rattle.lent.proofs.items.named.Symbol as callee
 use Rattle.lent.proofs.items.named.Met as proved
 use Rattle.lent.proofs.items.desk_get_named.Key.{name}
@@ -13,5 +13,5 @@ use Rattle.lent.proofs.items.desk_get_named.Code as code
 pub desk-get-named-spec : {M : Type 1} → statement M
 unfolding code.routine
 desk-get-named-spec 𝓤 H 𝓜 𝓖 𝓡 =
-    lent-of (u32-par ∷ u32-par ∷ u32-par ∷ []) (λ x. Call.get (x .0) (x .1 .0) (Named (x .1 .1 .0))) 𝓤 H 𝓜 𝓖 𝓡 code.env name callee.name callee.routine
-    code.calls-lent·items·named (code.unfolded 𝓤 H 𝓜 𝓡) (proved.met 𝓤 H 𝓜 𝓖 𝓡)
+    lent-of (w32 ∷ w32 ∷ w32 ∷ []) (λ x. Call.get (x .0) (x .1 .0) (Named (x .1 .1 .0))) 𝓤 H 𝓜 𝓖 𝓡 code.env name callee.name
+    (code.unfolded 𝓤 H 𝓜 𝓡) (proved.met 𝓤 H 𝓜 𝓖 𝓡)

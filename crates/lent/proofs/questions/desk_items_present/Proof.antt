@@ -11,5 +11,5 @@ use Rattle.lent.proofs.questions.desk_items_present.Code as code
 pub desk-items-present-spec : {M : Type 1} → statement M
 unfolding code.routine
 desk-items-present-spec 𝓤 H 𝓜 𝓖 𝓡 =
-    asked-of [] (λ x. Question.items-present) 𝓤 H 𝓜 𝓖 𝓡 code.env name callee.name callee.routine
-    code.calls-desk·Desk·items-present (code.unfolded 𝓤 H 𝓜 𝓡) (proved.met 𝓤 H 𝓜 𝓖 𝓡)
+    asked-of [] (λ x. Question.items-present) 𝓤 H 𝓜 𝓖 𝓡 code.env name callee.name
+    (code.unfolded 𝓤 H 𝓜 𝓡) (proved.met 𝓤 H 𝓜 𝓖 𝓡)

@@ -11,5 +11,5 @@ use Rattle.lent.proofs.questions.desk_strong_bound.Code as code
 pub desk-strong-bound-spec : {M : Type 1} → statement M
 unfolding code.routine
 desk-strong-bound-spec 𝓤 H 𝓜 𝓖 𝓡 =
-    asked-of [] (λ x. Question.strong-bound) 𝓤 H 𝓜 𝓖 𝓡 code.env name callee.name callee.routine
-    code.calls-desk·Desk·strong-bound (code.unfolded 𝓤 H 𝓜 𝓡) (proved.met 𝓤 H 𝓜 𝓖 𝓡)
+    asked-of [] (λ x. Question.strong-bound) 𝓤 H 𝓜 𝓖 𝓡 code.env name callee.name
+    (code.unfolded 𝓤 H 𝓜 𝓡) (proved.met 𝓤 H 𝓜 𝓖 𝓡)

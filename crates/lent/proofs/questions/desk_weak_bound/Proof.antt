@@ -11,5 +11,5 @@ use Rattle.lent.proofs.questions.desk_weak_bound.Code as code
 pub desk-weak-bound-spec : {M : Type 1} → statement M
 unfolding code.routine
 desk-weak-bound-spec 𝓤 H 𝓜 𝓖 𝓡 =
-    asked-of [] (λ x. Question.weak-bound) 𝓤 H 𝓜 𝓖 𝓡 code.env name callee.name callee.routine
-    code.calls-desk·Desk·weak-bound (code.unfolded 𝓤 H 𝓜 𝓡) (proved.met 𝓤 H 𝓜 𝓖 𝓡)
+    asked-of [] (λ x. Question.weak-bound) 𝓤 H 𝓜 𝓖 𝓡 code.env name callee.name
+    (code.unfolded 𝓤 H 𝓜 𝓡) (proved.met 𝓤 H 𝓜 𝓖 𝓡)

@@ -10,5 +10,5 @@ use Rattle.lent.proofs.sweeps.desk_strong_sweep.Code as code
 pub desk-strong-sweep-spec : {M : Type 1} → statement M
 unfolding code.routine
 desk-strong-sweep-spec 𝓤 H 𝓜 𝓖 𝓡 =
-    swept-of Call.strong-sweep 𝓤 H 𝓜 𝓖 𝓡 code.env name callee.name callee.routine
-    code.calls-desk·Desk·strong-sweep (code.unfolded 𝓤 H 𝓜 𝓡) (proved.met 𝓤 H 𝓜 𝓖 𝓡)
+    swept-of Call.strong-sweep 𝓤 H 𝓜 𝓖 𝓡 code.env name callee.name
+    (code.unfolded 𝓤 H 𝓜 𝓡) (proved.met 𝓤 H 𝓜 𝓖 𝓡)

@@ -10,5 +10,5 @@ use Rattle.lent.proofs.sweeps.desk_weak_sweep.Code as code
 pub desk-weak-sweep-spec : {M : Type 1} → statement M
 unfolding code.routine
 desk-weak-sweep-spec 𝓤 H 𝓜 𝓖 𝓡 =
-    swept-of Call.weak-sweep 𝓤 H 𝓜 𝓖 𝓡 code.env name callee.name callee.routine
-    code.calls-desk·Desk·weak-sweep (code.unfolded 𝓤 H 𝓜 𝓡) (proved.met 𝓤 H 𝓜 𝓖 𝓡)
+    swept-of Call.weak-sweep 𝓤 H 𝓜 𝓖 𝓡 code.env name callee.name
+    (code.unfolded 𝓤 H 𝓜 𝓡) (proved.met 𝓤 H 𝓜 𝓖 𝓡)
