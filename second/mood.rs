@@ -1,5 +1,7 @@
 //! What random sessions are like: moods, and the plan of one session.
 
+#![allow(dead_code)] // not every program leaves out a final newline
+
 use crate::desk::CHANNELS;
 use crate::dice::Dice;
 
