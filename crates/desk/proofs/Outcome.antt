@@ -1,6 +1,7 @@
 -- The outcome of a call, by its code: how the code's one exit meets the definition. Assumes nothing.
 use mathlib.Core.Path.{_≡_, refl, sym, ap, ap₂, _∙_}
 use mathlib.Core.Bool.{Bool, cond}
+use mathlib.Core.Logic.{_⊎_, ⊎-elim}
 use mathlib.Core.List.{List}
 use Prim.Native.Nat.{ℕ}
 use lib.Dec.{eqb}
@@ -29,6 +30,18 @@ module _ (d : Desk) (tests : List Check) (value time : ℕ) (next : Desk) where
   pub refused : {code : ℕ} {answer : Answer} → code ≡ refusal tests → answer ≡ answered code value time → (code ≡ 0 → ⊥)
       → _≡_ {A = Next} (record { answer = answer; desk = d }) (outcome d tests value time next)
   refused {code} e a z = by-code e a (ne-eqb code 0 z)
+
+  -- the two ways to the one exit: through the stores where all checks hold, else past them
+  pub joined : {code : ℕ} {answer : Answer} {last : Desk} {Through Past : Type 0} → code ≡ refusal tests → answer ≡ answered code value time
+      → (Through → (code ≡ 0) × (last ≡ next))
+      → (Past → (code ≡ 0 → ⊥) × (last ≡ d))
+      → Through ⊎ Past
+      → _≡_ {A = Next} (record { answer = answer; desk = last }) (outcome d tests value time next)
+  joined {code} {answer} {last} e a through past =
+      ⊎-elim (λ w. leaves (through w .1) ∙ accepted e a (through w .0)) (λ w. leaves (past w .1) ∙ refused e a (past w .0))
+    where
+      leaves : {x : Desk} → last ≡ x → _≡_ {A = Next} (record { answer = answer; desk = last }) (record { answer = answer; desk = x })
+      leaves = ap (λ (x : Desk). record { answer = answer; desk = x })
 
 -- a call that would change nothing, whether its checks hold or not
 pub unchanged : (d : Desk) (tests : List Check) (value time : ℕ) {code : ℕ} {answer : Answer} → code ≡ refusal tests → answer ≡ answered code value time

@@ -15,6 +15,7 @@ impl Desk {
     fn attach(mut self, thread: u32, channel: u32, direction: u32, mark: u32) -> Next
         ensures { λ r. ⌜ r ≡ outcome self (checks self (Call.attach-output thread channel)) (freeConnection self) mark (attachedAs self (connected direction thread channel mark)) ⌝ }
     {
+        let mut connections = self.connections;
         let place = words::lowest_free(self.attached);
         let code = check(
             in_use(self.living, thread, Desk::THREADS),
@@ -27,7 +28,7 @@ impl Desk {
         );
         let answer = Answer::with_code(code, place as u64, mark);
         if code == 0 {
-            self.connections[place as usize] = Connection {
+            connections[place as usize] = Connection {
                 direction,
                 thread,
                 channel,
@@ -37,6 +38,7 @@ impl Desk {
             };
             self.attached = words::with(self.attached, place);
         }
+        self.connections = connections;
         Next { answer, desk: self }
     }
 
@@ -56,7 +58,7 @@ impl Desk {
     pub fn detach(mut self, thread: u32, connection: u32) -> Next
         ensures { λ r. ⌜ r ≡ step self (Call.detach thread connection) ⌝ }
     {
-        let connections = self.connections;
+        let mut connections = self.connections;
         let row = connection_at(connections, connection);
         let code = check(
             in_use(self.living, thread, Desk::THREADS),
@@ -65,9 +67,10 @@ impl Desk {
         );
         let answer = Answer::with_code(code, 0, 0);
         if code == 0 {
-            self.connections[connection as usize] = Connection::NONE;
+            connections[connection as usize] = Connection::NONE;
             self.attached = words::without(self.attached, connection);
         }
+        self.connections = connections;
         Next { answer, desk: self }
     }
 }

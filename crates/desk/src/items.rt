@@ -41,7 +41,7 @@ impl Desk {
         ensures { λ r. ⌜ r ≡ step self (Call.put thread connection timestamp ticket) ⌝ }
     {
         let connections = self.connections;
-        let items = self.items;
+        let mut items = self.items;
         let visible = self.visible(thread);
         let row = connection_at(connections, connection);
         let same = find(items, self.present, row.channel, timestamp);
@@ -70,20 +70,21 @@ impl Desk {
         );
         let answer = Answer::with_code(code, 0, 0);
         if code == 0 {
-            self.items[place as usize] = Item {
+            items[place as usize] = Item {
                 channel: row.channel,
                 timestamp,
                 ticket,
             };
             self.present = words::with(self.present, place);
         }
+        self.items = items;
         Next { answer, desk: self }
     }
 
     pub fn get(mut self, thread: u32, connection: u32, which: Which) -> Next
         ensures { λ r. ⌜ r ≡ step self (Call.get thread connection which) ⌝ }
     {
-        let connections = self.connections;
+        let mut connections = self.connections;
         let items = self.items;
         let row = connection_at(connections, connection);
         let found = seek(items, self.present, row, which);
@@ -108,15 +109,16 @@ impl Desk {
         };
         let answer = Answer::with_code(code, item.ticket, item.timestamp);
         if code == 0 {
-            self.connections[connection as usize] = row.got(place);
+            connections[connection as usize] = row.got(place);
         }
+        self.connections = connections;
         Next { answer, desk: self }
     }
 
     pub fn consume(mut self, thread: u32, connection: u32, timestamp: u32) -> Next
         ensures { λ r. ⌜ r ≡ step self (Call.consume thread connection timestamp) ⌝ }
     {
-        let connections = self.connections;
+        let mut connections = self.connections;
         let items = self.items;
         let row = connection_at(connections, connection);
         let place = find(items, self.present, row.channel, timestamp);
@@ -139,15 +141,16 @@ impl Desk {
         );
         let answer = Answer::with_code(code, 0, 0);
         if code == 0 {
-            self.connections[connection as usize] = row.consumed_by_name(place);
+            connections[connection as usize] = row.consumed_by_name(place);
         }
+        self.connections = connections;
         Next { answer, desk: self }
     }
 
     pub fn consume_until(mut self, thread: u32, connection: u32, timestamp: u32) -> Next
         ensures { λ r. ⌜ r ≡ step self (Call.consume-until thread connection timestamp) ⌝ }
     {
-        let connections = self.connections;
+        let mut connections = self.connections;
         let row = connection_at(connections, connection);
         let code = check(
             in_use(self.living, thread, Desk::THREADS),
@@ -164,8 +167,9 @@ impl Desk {
         );
         let answer = Answer::with_code(code, 0, 0);
         if code == 0 {
-            self.connections[connection as usize] = row.raised(timestamp + 1);
+            connections[connection as usize] = row.raised(timestamp + 1);
         }
+        self.connections = connections;
         Next { answer, desk: self }
     }
 }

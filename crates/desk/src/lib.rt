@@ -114,7 +114,6 @@ impl Desk {
         let connections = self.connections;
         let items = self.items;
         let time = least_time(threads, self.living);
-        let awaited = least_awaited(connections, self.attached, items, self.present);
-        smaller(time, awaited)
+        least_awaited(connections, self.attached, items, self.present, time)
     }
 }

@@ -30,6 +30,7 @@ impl Desk {
     pub fn new_thread(mut self, thread: u32, time: u32) -> Next
         ensures { λ r. ⌜ r ≡ step self (Call.new-thread thread time) ⌝ }
     {
+        let mut threads = self.threads;
         let visible = self.visible(thread);
         let place = words::lowest_free(self.living);
         let code = check(
@@ -39,9 +40,10 @@ impl Desk {
         );
         let answer = Answer::with_code(code, place as u64, 0);
         if code == 0 {
-            self.threads[place as usize] = Thread { time };
+            threads[place as usize] = Thread { time };
             self.living = words::with(self.living, place);
         }
+        self.threads = threads;
         Next { answer, desk: self }
     }
 
@@ -65,6 +67,7 @@ impl Desk {
     pub fn set(mut self, thread: u32, time: u32) -> Next
         ensures { λ r. ⌜ r ≡ step self (Call.set-time thread time) ⌝ }
     {
+        let mut threads = self.threads;
         let visible = self.visible(thread);
         let code = check(
             in_use(self.living, thread, Desk::THREADS),
@@ -73,8 +76,9 @@ impl Desk {
         );
         let answer = Answer::with_code(code, 0, 0);
         if code == 0 {
-            self.threads[thread as usize] = Thread { time };
+            threads[thread as usize] = Thread { time };
         }
+        self.threads = threads;
         Next { answer, desk: self }
     }
 }

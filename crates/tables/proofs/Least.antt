@@ -1,21 +1,22 @@
 -- The parts of visible time and of the two bounds, as loops over the places of a word. Assumes nothing.
 use mathlib.Core.Path.{_≡_, refl, sym, ap, _∙_}
 use mathlib.Core.Bool.{Bool, true, false, cond, not, _&&_, and-false}
-use Prim.Native.Nat.{ℕ, _<_, min}
-use native.Mathlib.Nat.{min-eq-right}
+use Prim.Native.Nat.{ℕ, zero, suc, _≤_, _<_, min}
+use native.Mathlib.Nat.{min-eq-left, min-eq-right}
+use native.Mathlib.Omega.{arith}
 use lib.Dec.{eqb, leb, ltb}
 use borrow.Author.Tests.{ltb-false}
-use Rattle.words.specs.Places.{each}
-use Rattle.words.specs.Words.{has, both, less}
-use Rattle.words.proofs.Laws.{both-at, less-at}
-use Rattle.words.proofs.Walk.{each-and, each-ext}
+use Rattle.words.specs.Places.{foldTo, each}
+use Rattle.words.specs.Words.{has, without, both, less, lowest, count}
+use Rattle.words.proofs.Laws.{both-at, less-at, count-none}
+use Rattle.words.proofs.Walk.{each-turn, each-and, each-ext}
 use Rattle.rows.specs.declared.Thread.{Thread}
 use Rattle.rows.specs.declared.Connection.{Connection}
 use Rattle.rows.specs.declared.Item.{Item}
 use Rattle.rows.specs.Numbers.{never, input}
 use Rattle.rows.specs.States.{isPending, lookedAt, stateOf}
 use Rattle.rows.specs.Times.{lessIf}
-use Rattle.rows.proofs.Laws.{and-assoc, and-comm, bool-cases, open-is}
+use Rattle.rows.proofs.Laws.{and-assoc, and-comm, bool-cases, cond-same, open-is}
 use Rattle.tables.specs.Tables.{Table, threadAt, connectionAt, itemAt, isInput, readsFor}
 use Rattle.tables.specs.Seen.{lies, isOpenAt, isPendingAt}
 use Rattle.tables.specs.Times.{smallest, some, leastTime, openTime, leastOpen, leastKeep, isAwaited, leastAwaited}
@@ -39,6 +40,19 @@ pub least-keep-is : (connections : Table Connection) → leastKeep connections �
 unfolding leastKeep smallest isInput lessIf
 least-keep-is connections =
     each-and 32 _ never _ _ _ (λ k inside. ap (λ (t : Bool). t && eqb (connectionAt connections k .direction) input) (used-below (connections .used) inside))
+
+-- ---- a loop that starts at a time
+
+-- it finds the smaller of that time and of what it finds from never on
+smallest-from : (n : ℕ) (counts : ℕ → Bool) (time : ℕ → ℕ) (start : ℕ) → start ≤ never
+    → each n counts (λ i least. min (time i) least) start ≡ min start (smallest n counts time)
+unfolding smallest each foldTo
+smallest-from zero counts time start fits = sym (min-eq-left fits)
+smallest-from (suc n) counts time start fits = go (counts n) _ (smallest-from n counts time start fits)
+  where
+    go : (t : Bool) {x : ℕ} (y : ℕ) → x ≡ min start y → cond t (min (time n) x) x ≡ min start (cond t (min (time n) y) y)
+    go true y e = omega arith
+    go false y e = e
 
 -- ---- a loop within a loop
 
@@ -175,10 +189,47 @@ is-awaited connections items p = go (has (items .used) p)
 abbrev pub leastStep : Table Connection → Table Item → ℕ → ℕ → ℕ
 leastStep connections items p least = lessIf (awaitedBy connections (itemAt items p) p) (itemAt items p .timestamp) least
 
-pub least-awaited-is : (connections : Table Connection) (items : Table Item)
-    → leastAwaited connections items ≡ each 64 (has (items .used)) (leastStep connections items) never
-unfolding leastAwaited smallest lessIf
-least-awaited-is connections items = each-and 64 _ never _ _ _ (λ p inside. is-awaited connections items p)
+pub least-awaited-is : (connections : Table Connection) (items : Table Item) (time : ℕ) → time ≤ never
+    → min time (leastAwaited connections items) ≡ each 64 (has (items .used)) (leastStep connections items) time
+unfolding leastAwaited lessIf
+least-awaited-is connections items time fits =
+    sym (smallest-from 64 _ _ time fits) ∙ each-and 64 _ time _ _ _ (λ p inside. is-awaited connections items p)
+
+-- steps that change nothing
+each-same : {B : Type 0} (n : ℕ) (counts : ℕ → Bool) (f : ℕ → B → B) (x : B) → ((i : ℕ) → f i x ≡ x) → each n counts f x ≡ x
+unfolding each foldTo
+each-same zero counts f x same = refl
+each-same {B} (suc n) counts f x same =
+    rw (each-same n counts f x same) (ap (λ (y : B). cond (counts n) y x) (same n) ∙ cond-same (counts n) x)
+
+-- once some connection awaits the item, those left do not change that, so none of them is asked
+asked-on : (connections : Table Connection) (item : Item) (p : ℕ) (found : Bool) (v : ℕ) {left : ℕ}
+    → left ≡ cond found 0 v
+    → each 32 (has left) (awaitStep connections item p) found ≡ each 32 (has v) (awaitStep connections item p) found
+asked-on connections item p true v word = answer _ ∙ sym (answer _)
+  where
+    answer : (w : ℕ) → each 32 (has w) (awaitStep connections item p) true ≡ true
+    answer w = each-same 32 _ _ true (λ k. cond-same (awaits (connectionAt connections k) item p) true)
+asked-on connections item p false v word = ap (λ (u : ℕ). each 32 (has u) (awaitStep connections item p) false) word
+
+-- one turn of the inner loop: the connection in the lowest place left is asked, and then the others where the item is not awaited yet
+pub asked-turn : (connections : Table Connection) (item : Item) (p w : ℕ) (found : Bool) {k v left : ℕ} {holds next t : Bool}
+    → k < 32
+    → k ≡ lowest w
+    → holds ≡ awaits (connectionAt connections k) item p
+    → next ≡ cond holds true found
+    → v ≡ without w k
+    → left ≡ cond next 0 v
+    → each 32 (has w) (awaitStep connections item p) found ≡ t
+    → each 32 (has left) (awaitStep connections item p) next ≡ t
+asked-turn connections item p w found {k} {v} {left} {holds} {next} inside lowest-left asked step rest word whole =
+    asked-on connections item p next v word
+    ∙ each-turn 32 _ w found (omega arith) inside lowest-left (step ∙ ap (λ (b : Bool). cond b true found) asked) rest whole
+
+-- and fewer are left to ask
+pub asked-fewer : (found : Bool) (v : ℕ) {left n : ℕ} → left ≡ cond found 0 v → count v < n → count left < n
+asked-fewer true v word fewer = rw (word, count-none) (omega arith)
+asked-fewer false v word fewer = rw word fewer
 
 -- one turn: the inner loop goes over the connections, or over none where the timestamp could not lower the least
 pub await-turn : (connections : Table Connection) (item : Item) (p least : ℕ) {left x : ℕ} {awaited : Bool}

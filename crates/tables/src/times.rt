@@ -1,6 +1,7 @@
 // The parts of visible time and of the two bounds. Each loop goes over the used places of a word, lowest first.
 ghost use mathlib.Core.Path.{_≡_};
 ghost use mathlib.Core.Bool.{_&&_, cond, true};
+ghost use Prim.Native.Nat.{min};
 ghost use lib.Dec.{eqb, ltb};
 ghost use Rattle.words.specs.Words.{both, less};
 ghost use Rattle.rows.specs.Numbers.{input};
@@ -136,16 +137,27 @@ fn true_if(holds: bool, found: bool) -> bool
     found
 }
 
-// The smallest timestamp UNSEEN or OPEN on some input connection.
+// The connections still to be asked about an item: none once one awaits it.
+fn still_asked(awaited: bool, left: u64) -> u64
+    ensures { λ r. ⌜ r ≡ cond awaited 0 left ⌝ }
+{
+    if awaited {
+        return 0;
+    }
+    left
+}
+
+// The smaller of a time and the smallest timestamp UNSEEN or OPEN on some input connection. Only items below the time are looked at.
 pub fn least_awaited(
     connections: [Connection; 32],
     attached: u64,
     items: [Item; 64],
     present: u64,
+    time: u32,
 ) -> u32
-    ensures { λ r. ⌜ r ≡ leastAwaited (table attached connections) (table present items) ⌝ }
+    ensures { λ r. ⌜ r ≡ min time (leastAwaited (table attached connections) (table present items)) ⌝ }
 {
-    let mut least = NEVER;
+    let mut least = time;
     let mut rest = present;
     let mut p = words::lowest(rest);
     while p < 64 {
@@ -156,7 +168,7 @@ pub fn least_awaited(
         while k < 32 {
             let connection = connections[k as usize];
             awaited = true_if(awaits(connection, p, item), awaited);
-            left = words::without(left, k);
+            left = still_asked(awaited, words::without(left, k));
             k = words::lowest(left);
         }
         least = least_if(awaited, item.timestamp, least);

@@ -6,7 +6,7 @@ use mathlib.Core.List.{List}
 use Rattle.rows.specs.Answers.{Check, refusal}
 use Rattle.rows.proofs.Laws.{passed}
 use Rattle.desk.specs.Calls.{Call, attachedAs, checks}
-use Rattle.desk.proofs.Outcome.{accepted, refused}
+use Rattle.desk.proofs.Outcome.{joined}
 use Rattle.desk.proofs.Desk.attach.Statement.{statement}
 use Rattle.desk.proofs.Desk.attach.Tie as tie
 
@@ -34,17 +34,17 @@ cast-with-code c = search needs
 with-code-requires : tie.Need-with-code-requires
 with-code-requires c κs = search needs
 
-cast-t18 : tie.Need-cast-t18
-cast-t18 c = search needs
+cast-connections : tie.Need-cast-connections
+cast-connections c = search needs
 
-mul-t19 : tie.Need-mul-t19
-mul-t19 c = search needs
+mul-connections : tie.Need-mul-connections
+mul-connections c = search needs
 
 -- 01's checks of the call; attach input has the same
 abbrev asked : tie.After-check3 → List Check
 asked c =
-    let given = c .before .before .before .before .before .before .args in
-    checks (given .t1) (Call.attach-output (given .thread) (given .channel))
+    let given = c .before .before .before .before .before .before .before .args in
+    checks (given .self) (Call.attach-output (given .thread) (given .channel))
 
 code-of : (c : tie.After-check3) → c .check3 .result ≡ refusal (asked c)
 unfolding refusal checks
@@ -56,9 +56,9 @@ code-of c =
     simp (c .check3 .ensures, c .before .check2 .ensures, checking .check .ensures, exists .in-use2 .ensures, lives .in-use .ensures, free)
 
 -- the check of the free place holds, so it is in the table
-element-set-from-self : tie.Need-element-set-from-self
+array-set-from-connections : tie.Need-array-set-from-connections
 unfolding checks
-element-set-from-self c =
+array-set-from-connections c =
     let checked = c .before .before in
     let free = checked .before .before .before .before .before .lowest-free .ensures in
     let pass = passed (asked checked) (refl, (refl, (refl, tt))) (sym (code-of checked) ∙ c .if1 .taken) in
@@ -70,17 +70,13 @@ with-requires c κs = search needs
 returns : tie.Need-returns
 unfolding attachedAs
 returns c =
-    let checked = c .before .before .before in
-    let free = checked .before .before .before .before .before .lowest-free .ensures in
-    let answer = rw free at (c .before .before .with-code .ensures) in
-    rw (c .with .ensures, free) (accepted _ _ _ _ _ (code-of checked) answer (c .before .if1 .taken))
-
-returns-2 : tie.Need-returns-2
-returns-2 c =
     let checked = c .before .before in
     let free = checked .before .before .before .before .before .lowest-free .ensures in
     let answer = rw free at (c .before .with-code .ensures) in
-    refused _ _ _ _ _ (code-of checked) answer (c .if1 .left)
+    joined _ _ _ _ _ (code-of checked) answer
+    (λ through. (through .0 .taken, rw (through .2, through .3, through .1 .ensures, free)))
+    (λ past. (past .0 .left, rw (past .1, past .2)))
+    (c .if1 .came)
 
 pub attach-spec : {M : Type 1} → statement M
 attach-spec =
@@ -94,9 +90,8 @@ attach-spec =
     check-requires-3
     cast-with-code
     with-code-requires
-    cast-t18
-    mul-t19
-    element-set-from-self
+    cast-connections
+    mul-connections
+    array-set-from-connections
     with-requires
-    returns
-    returns-2)
+    returns)

@@ -8,7 +8,7 @@ use Rattle.tables.specs.Tables.{owns}
 use Rattle.tables.specs.Seen.{state}
 use Rattle.desk.specs.declared.Desk.{Desk}
 use Rattle.desk.specs.Calls.{Call, step, checks, effect, value, time}
-use Rattle.desk.proofs.Outcome.{accepted, refused}
+use Rattle.desk.proofs.Outcome.{joined}
 use Rattle.desk.proofs.Owned.{accepted-below}
 use Rattle.desk.proofs.Desk.consume.Statement.{statement}
 use Rattle.desk.proofs.Desk.consume.Tie as tie
@@ -18,7 +18,7 @@ abbrev start : tie.After-check5 → tie.Start
 start c = c .before .before .before .before .before .before .before .before .before .before .before .before .before .before
 
 abbrev desk-of : tie.After-check5 → Desk
-desk-of c = start c .args .t1
+desk-of c = start c .args .self
 
 abbrev call-of : tie.After-check5 → Call
 call-of c = let given = start c .args in Call.consume (given .thread) (given .connection) (given .timestamp)
@@ -88,29 +88,23 @@ with-code-requires c κs = search needs
 consumed-by-name-requires : tie.Need-consumed-by-name-requires
 consumed-by-name-requires c κs = search needs
 
-mul-t26 : tie.Need-mul-t26
-mul-t26 c =
+mul-connections : tie.Need-mul-connections
+mul-connections c =
     let inside = connection-below (c .before .before .before) (c .before .if1 .taken) in
     omega arith
 
-element-set-from-self : tie.Need-element-set-from-self
-element-set-from-self c = connection-below (c .before .before .before) (c .before .if1 .taken)
+array-set-from-connections : tie.Need-array-set-from-connections
+array-set-from-connections c = connection-below (c .before .before .before) (c .before .if1 .taken)
 
 returns : tie.Need-returns
 unfolding step effect value time
 returns c =
-    let answered = c .before .before in
-    let checked = answered .before in
+    let checked = c .before .before in
     let found = checked .before .before .before .before .before .before .before .before .before .before in
-    rw (c .consumed-by-name .ensures, found .find .ensures, found .before .connection-at .ensures)
-    (accepted (desk-of checked) _ _ _ (effect (desk-of checked) (call-of checked)) (code-of checked) (answered .with-code .ensures) (c .before .if1 .taken))
-
-returns-2 : tie.Need-returns-2
-unfolding step effect value time
-returns-2 c =
-    let answered = c .before in
-    let checked = answered .before in
-    refused (desk-of checked) _ _ _ (effect (desk-of checked) (call-of checked)) (code-of checked) (answered .with-code .ensures) (c .if1 .left)
+    joined (desk-of checked) _ _ _ _ (code-of checked) (c .before .with-code .ensures)
+    (λ through. (through .0 .taken, rw (through .2, through .1 .ensures, found .find .ensures, found .before .connection-at .ensures)))
+    (λ past. (past .0 .left, rw (past .1)))
+    (c .if1 .came)
 
 pub consume-spec : {M : Type 1} → statement M
 consume-spec =
@@ -129,7 +123,6 @@ consume-spec =
     check-requires-5
     with-code-requires
     consumed-by-name-requires
-    mul-t26
-    element-set-from-self
-    returns
-    returns-2)
+    mul-connections
+    array-set-from-connections
+    returns)

@@ -10,7 +10,7 @@ use Rattle.rows.proofs.Laws.{passed}
 use Rattle.tables.specs.Tables.{owns}
 use Rattle.desk.specs.declared.Desk.{Desk}
 use Rattle.desk.specs.Calls.{Call, step, checks, effect, value, time}
-use Rattle.desk.proofs.Outcome.{accepted, refused}
+use Rattle.desk.proofs.Outcome.{joined}
 use Rattle.desk.proofs.Owned.{accepted-below}
 use Rattle.desk.proofs.Desk.consume_until.Statement.{statement}
 use Rattle.desk.proofs.Desk.consume_until.Tie as tie
@@ -20,7 +20,7 @@ abbrev start : tie.After-check4 → tie.Start
 start c = c .before .before .before .before .before .before .before .before .before
 
 abbrev desk-of : tie.After-check4 → Desk
-desk-of c = start c .args .t1
+desk-of c = start c .args .self
 
 abbrev call-of : tie.After-check4 → Call
 call-of c = let given = start c .args in Call.consume-until (given .thread) (given .connection) (given .timestamp)
@@ -85,29 +85,23 @@ add-raised c =
 raised-requires : tie.Need-raised-requires
 raised-requires c κs = search needs
 
-mul-t22 : tie.Need-mul-t22
-mul-t22 c =
+mul-connections : tie.Need-mul-connections
+mul-connections c =
     let inside = connection-below (c .before .before .before) (c .before .if1 .taken) in
     omega arith
 
-element-set-from-self : tie.Need-element-set-from-self
-element-set-from-self c = connection-below (c .before .before .before) (c .before .if1 .taken)
+array-set-from-connections : tie.Need-array-set-from-connections
+array-set-from-connections c = connection-below (c .before .before .before) (c .before .if1 .taken)
 
 returns : tie.Need-returns
 unfolding step effect value time
 returns c =
-    let answered = c .before .before in
-    let checked = answered .before in
+    let checked = c .before .before in
     let row-read = checked .before .before .before .before .before .before .before in
-    rw (c .raised .ensures, row-read .connection-at .ensures)
-    (accepted (desk-of checked) _ _ _ (effect (desk-of checked) (call-of checked)) (code-of checked) (answered .with-code .ensures) (c .before .if1 .taken))
-
-returns-2 : tie.Need-returns-2
-unfolding step effect value time
-returns-2 c =
-    let answered = c .before in
-    let checked = answered .before in
-    refused (desk-of checked) _ _ _ (effect (desk-of checked) (call-of checked)) (code-of checked) (answered .with-code .ensures) (c .if1 .left)
+    joined (desk-of checked) _ _ _ _ (code-of checked) (c .before .with-code .ensures)
+    (λ through. (through .0 .taken, rw (through .2, through .1 .ensures, row-read .connection-at .ensures)))
+    (λ past. (past .0 .left, rw (past .1)))
+    (c .if1 .came)
 
 pub consume-until-spec : {M : Type 1} → statement M
 consume-until-spec =
@@ -123,7 +117,6 @@ consume-until-spec =
     with-code-requires
     add-raised
     raised-requires
-    mul-t22
-    element-set-from-self
-    returns
-    returns-2)
+    mul-connections
+    array-set-from-connections
+    returns)

@@ -6,7 +6,7 @@ use Rattle.rows.specs.Answers.{refusal}
 use Rattle.tables.specs.Tables.{owns}
 use Rattle.desk.specs.declared.Desk.{Desk}
 use Rattle.desk.specs.Calls.{Call, step, checks, effect, value, time}
-use Rattle.desk.proofs.Outcome.{accepted, refused}
+use Rattle.desk.proofs.Outcome.{joined}
 use Rattle.desk.proofs.Owned.{accepted-below}
 use Rattle.desk.proofs.Desk.detach.Statement.{statement}
 use Rattle.desk.proofs.Desk.detach.Tie as tie
@@ -16,7 +16,7 @@ abbrev start : tie.After-check2 → tie.Start
 start c = c .before .before .before .before .before .before
 
 abbrev desk-of : tie.After-check2 → Desk
-desk-of c = start c .args .t1
+desk-of c = start c .args .self
 
 abbrev call-of : tie.After-check2 → Call
 call-of c = let given = start c .args in Call.detach (given .thread) (given .connection)
@@ -58,11 +58,11 @@ check-requires-2 c κs = search needs
 with-code-requires : tie.Need-with-code-requires
 with-code-requires c κs = search needs
 
-mul-t16 : tie.Need-mul-t16
-mul-t16 c = search needs
+mul-connections : tie.Need-mul-connections
+mul-connections c = search needs
 
-element-set-from-self : tie.Need-element-set-from-self
-element-set-from-self c = connection-below (c .before .before) (c .if1 .taken)
+array-set-from-connections : tie.Need-array-set-from-connections
+array-set-from-connections c = connection-below (c .before .before) (c .if1 .taken)
 
 without-requires : tie.Need-without-requires
 without-requires c κs = search needs
@@ -70,17 +70,11 @@ without-requires c κs = search needs
 returns : tie.Need-returns
 unfolding step effect value time
 returns c =
-    let answered = c .before .before in
-    let checked = answered .before in
-    rw (c .without .ensures)
-    (accepted (desk-of checked) _ _ _ (effect (desk-of checked) (call-of checked)) (code-of checked) (answered .with-code .ensures) (c .before .if1 .taken))
-
-returns-2 : tie.Need-returns-2
-unfolding step effect value time
-returns-2 c =
-    let answered = c .before in
-    let checked = answered .before in
-    refused (desk-of checked) _ _ _ (effect (desk-of checked) (call-of checked)) (code-of checked) (answered .with-code .ensures) (c .if1 .left)
+    let checked = c .before .before in
+    joined (desk-of checked) _ _ _ _ (code-of checked) (c .before .with-code .ensures)
+    (λ through. (through .0 .taken, rw (through .2, through .3, through .1 .ensures)))
+    (λ past. (past .0 .left, rw (past .1, past .2)))
+    (c .if1 .came)
 
 pub detach-spec : {M : Type 1} → statement M
 detach-spec =
@@ -92,8 +86,7 @@ detach-spec =
     check-requires
     check-requires-2
     with-code-requires
-    mul-t16
-    element-set-from-self
+    mul-connections
+    array-set-from-connections
     without-requires
-    returns
-    returns-2)
+    returns)

@@ -7,7 +7,7 @@ use Rattle.rows.specs.Answers.{refusal}
 use Rattle.tables.specs.Tables.{owns}
 use Rattle.desk.specs.declared.Desk.{Desk}
 use Rattle.desk.specs.Calls.{Call, step, checks, effect, value, time, soughtBy}
-use Rattle.desk.proofs.Outcome.{accepted, refused, unchanged}
+use Rattle.desk.proofs.Outcome.{joined, unchanged}
 use Rattle.desk.proofs.Owned.{accepted-below}
 use Rattle.desk.proofs.Desk.get.Statement.{statement}
 use Rattle.desk.proofs.Desk.get.Tie as tie
@@ -17,7 +17,7 @@ abbrev start : tie.After-check5 → tie.Start
 start c = c .before .before .before .before .before .before .before .before .before .before .before .before .before .before
 
 abbrev desk-of : tie.After-check5 → Desk
-desk-of c = start c .args .t1
+desk-of c = start c .args .self
 
 abbrev call-of : tie.After-check5 → Call
 call-of c = let given = start c .args in Call.get (given .thread) (given .connection) (given .which)
@@ -109,28 +109,25 @@ with-code-requires-2 c κs = search needs
 got-requires : tie.Need-got-requires
 got-requires c κs = search needs
 
-mul-t29 : tie.Need-mul-t29
-mul-t29 c =
+mul-connections : tie.Need-mul-connections
+mul-connections c =
     let inside = connection-below (c .before .before .before .before .before .before) (c .before .if1 .taken) in
     omega arith
 
-element-set-from-self : tie.Need-element-set-from-self
-element-set-from-self c = connection-below (c .before .before .before .before .before .before) (c .before .if1 .taken)
+array-set-from-connections : tie.Need-array-set-from-connections
+array-set-from-connections c = connection-below (c .before .before .before .before .before .before) (c .before .if1 .taken)
 
 returns-2 : tie.Need-returns-2
 unfolding step effect value time
 returns-2 c =
-    let checked = c .before .before .before .before .before .before in
-    let found = sought-is checked ∙ c .before .before .before .before .found .given .1 in
-    rw (c .got .ensures, checked .before .before .before .before .before .before .before .before .before .before .before .connection-at .ensures, found)
-    (accepted (desk-of checked) _ _ _ _ (code-of checked) (c .before .before .with-code2 .ensures) (c .before .if1 .taken))
-
-returns-3 : tie.Need-returns-3
-unfolding step effect value time
-returns-3 c =
     let checked = c .before .before .before .before .before in
+    let row-read = checked .before .before .before .before .before .before .before .before .before .before .before in
     let found = sought-is checked ∙ c .before .before .before .found .given .1 in
-    rw found (refused (desk-of checked) _ _ _ _ (code-of checked) (c .before .with-code2 .ensures) (c .if1 .left))
+    rw found
+    (joined (desk-of checked) _ _ _ _ (code-of checked) (c .before .with-code2 .ensures)
+    (λ through. (through .0 .taken, rw (through .2, through .1 .ensures, row-read .connection-at .ensures)))
+    (λ past. (past .0 .left, rw (past .1)))
+    (c .if1 .came))
 
 pub get-spec : {M : Type 1} → statement M
 get-spec =
@@ -153,7 +150,6 @@ get-spec =
     returns
     with-code-requires-2
     got-requires
-    mul-t29
-    element-set-from-self
-    returns-2
-    returns-3)
+    mul-connections
+    array-set-from-connections
+    returns-2)

@@ -1,6 +1,6 @@
 -- `desk::Desk::new_thread` meets its contract. Assumes nothing.
 use borrow.Author.Tests.{ltb-true}
-use Rattle.desk.proofs.Outcome.{accepted, refused}
+use Rattle.desk.proofs.Outcome.{joined}
 use Rattle.desk.specs.Calls.{Call, step, checks, effect, value, time, adopted}
 use Rattle.rows.proofs.Laws.{passed}
 use Rattle.rows.specs.Answers.{refusal}
@@ -33,27 +33,27 @@ cast-with-code c = search needs
 with-code-requires : tie.Need-with-code-requires
 with-code-requires c κs = search needs
 
-cast-t17 : tie.Need-cast-t17
-cast-t17 c = search needs
+cast-threads : tie.Need-cast-threads
+cast-threads c = search needs
 
-mul-t18 : tie.Need-mul-t18
-mul-t18 c = search needs
+mul-threads : tie.Need-mul-threads
+mul-threads c = search needs
 
 -- the code is that of 01's checks
-code-of : (c : tie.After-check3) → let a = c .before .before .before .before .before .before .args in c .check3 .result ≡ refusal (checks (a .t1) (Call.new-thread (a .thread) (a .time)))
+code-of : (c : tie.After-check3) → let a = c .before .before .before .before .before .before .before .args in c .check3 .result ≡ refusal (checks (a .self) (Call.new-thread (a .thread) (a .time)))
 unfolding refusal checks
 code-of c =
     let in-use = c .before .before .before in
     let free = in-use .before in
     simp (c .check3 .ensures, c .before .check2 .ensures, c .before .before .check .ensures, in-use .in-use .ensures, free .lowest-free .ensures, free .before .visible .ensures)
 
-element-set-from-self : tie.Need-element-set-from-self
+array-set-from-threads : tie.Need-array-set-from-threads
 unfolding checks
-element-set-from-self c =
+array-set-from-threads c =
     let k = c .before .before in
     let free = k .before .before .before .before in
-    let a = free .before .before .args in
-    rw (free .lowest-free .ensures) (ltb-true _ _ (passed (checks (a .t1) (Call.new-thread (a .thread) (a .time))) (refl, (refl, (refl, tt))) (sym (code-of k) ∙ c .if1 .taken) .1 .1 .0))
+    let a = free .before .before .before .args in
+    rw (free .lowest-free .ensures) (ltb-true _ _ (passed (checks (a .self) (Call.new-thread (a .thread) (a .time))) (refl, (refl, (refl, tt))) (sym (code-of k) ∙ c .if1 .taken) .1 .1 .0))
 
 with-requires : tie.Need-with-requires
 with-requires c κs = search needs
@@ -61,17 +61,12 @@ with-requires c κs = search needs
 returns : tie.Need-returns
 unfolding step effect value time adopted
 returns c =
-    let k = c .before .before .before in
-    let free = k .before .before .before .before in
-    rw (c .with .ensures, free .lowest-free .ensures)
-    (accepted (free .before .before .args .t1) _ _ _ _ (code-of k) (c .before .before .with-code .ensures ∙ rw (free .lowest-free .ensures)) (c .before .if1 .taken))
-
-returns-2 : tie.Need-returns-2
-unfolding step effect value time
-returns-2 c =
     let k = c .before .before in
     let free = k .before .before .before .before in
-    refused (free .before .before .args .t1) _ _ _ _ (code-of k) (c .before .with-code .ensures ∙ rw (free .lowest-free .ensures)) (c .if1 .left)
+    joined (free .before .before .before .args .self) _ _ _ _ (code-of k) (c .before .with-code .ensures ∙ rw (free .lowest-free .ensures))
+    (λ through. (through .0 .taken, rw (through .2, through .3, through .1 .ensures, free .lowest-free .ensures)))
+    (λ past. (past .0 .left, rw (past .1, past .2)))
+    (c .if1 .came)
 
 pub new-thread-spec : {M : Type 1} → statement M
 new-thread-spec =
@@ -85,9 +80,8 @@ new-thread-spec =
     check-requires-3
     cast-with-code
     with-code-requires
-    cast-t17
-    mul-t18
-    element-set-from-self
+    cast-threads
+    mul-threads
+    array-set-from-threads
     with-requires
-    returns
-    returns-2)
+    returns)

@@ -8,7 +8,7 @@ use Rattle.rows.proofs.Laws.{passed}
 use Rattle.tables.specs.Tables.{owns}
 use Rattle.desk.specs.declared.Desk.{Desk}
 use Rattle.desk.specs.Calls.{Call, step, checks, effect, value, time, stored}
-use Rattle.desk.proofs.Outcome.{accepted, refused}
+use Rattle.desk.proofs.Outcome.{joined}
 use Rattle.desk.proofs.Owned.{fewer-free}
 use Rattle.desk.proofs.Desk.put.Statement.{statement}
 use Rattle.desk.proofs.Desk.put.Tie as tie
@@ -18,7 +18,7 @@ abbrev start : tie.After-check7 → tie.Start
 start c = c .before .before .before .before .before .before .before .before .before .before .before .before .before .before .before .before .before
 
 abbrev desk-of : tie.After-check7 → Desk
-desk-of c = start c .args .t1
+desk-of c = start c .args .self
 
 abbrev call-of : tie.After-check7 → Call
 call-of c = let given = start c .args in Call.put (given .thread) (given .connection) (given .timestamp) (given .ticket)
@@ -97,14 +97,14 @@ check-requires-7 c κs = search needs
 with-code-requires : tie.Need-with-code-requires
 with-code-requires c κs = search needs
 
-cast-t33 : tie.Need-cast-t33
-cast-t33 c = search needs
+cast-items : tie.Need-cast-items
+cast-items c = search needs
 
-mul-t34 : tie.Need-mul-t34
-mul-t34 c = search needs
+mul-items : tie.Need-mul-items
+mul-items c = search needs
 
-element-set-from-self : tie.Need-element-set-from-self
-element-set-from-self c = place-below (c .before .before) (c .if1 .taken)
+array-set-from-items : tie.Need-array-set-from-items
+array-set-from-items c = place-below (c .before .before) (c .if1 .taken)
 
 with-requires : tie.Need-with-requires
 with-requires c κs = search needs
@@ -112,19 +112,13 @@ with-requires c κs = search needs
 returns : tie.Need-returns
 unfolding step effect value time stored
 returns c =
-    let answered = c .before .before in
-    let checked = answered .before in
+    let checked = c .before .before in
     let placed = checked .before .before .before .before .before .before .before .before .before .before .before in
     let row-read = placed .before .before in
-    rw (c .with .ensures, placed .lowest-free .ensures, row-read .connection-at .ensures)
-    (accepted (desk-of checked) _ _ _ (effect (desk-of checked) (call-of checked)) (code-of checked) (answered .with-code .ensures) (c .before .if1 .taken))
-
-returns-2 : tie.Need-returns-2
-unfolding step effect value time
-returns-2 c =
-    let answered = c .before in
-    let checked = answered .before in
-    refused (desk-of checked) _ _ _ (effect (desk-of checked) (call-of checked)) (code-of checked) (answered .with-code .ensures) (c .if1 .left)
+    joined (desk-of checked) _ _ _ _ (code-of checked) (c .before .with-code .ensures)
+    (λ through. (through .0 .taken, rw (through .2, through .3, through .1 .ensures, placed .lowest-free .ensures, row-read .connection-at .ensures)))
+    (λ past. (past .0 .left, rw (past .1, past .2)))
+    (c .if1 .came)
 
 pub put-spec : {M : Type 1} → statement M
 put-spec =
@@ -145,9 +139,8 @@ put-spec =
     check-requires-6
     check-requires-7
     with-code-requires
-    cast-t33
-    mul-t34
-    element-set-from-self
+    cast-items
+    mul-items
+    array-set-from-items
     with-requires
-    returns
-    returns-2)
+    returns)

@@ -1,5 +1,5 @@
 -- `desk::Desk::set` meets its contract. Assumes nothing.
-use Rattle.desk.proofs.Outcome.{accepted, refused}
+use Rattle.desk.proofs.Outcome.{joined}
 use Rattle.desk.proofs.Owned.{used-inside}
 use Rattle.desk.specs.Calls.{Call, step, checks, effect, value, time}
 use Rattle.rows.proofs.Laws.{passed}
@@ -24,35 +24,32 @@ check-requires-2 c κs = search needs
 with-code-requires : tie.Need-with-code-requires
 with-code-requires c κs = search needs
 
-mul-t15 : tie.Need-mul-t15
-mul-t15 c = search needs
+mul-threads : tie.Need-mul-threads
+mul-threads c = search needs
 
 -- the code is that of 01's checks
-code-of : (c : tie.After-check2) → let a = c .before .before .before .before .args in c .check2 .result ≡ refusal (checks (a .t1) (Call.set-time (a .thread) (a .time)))
+code-of : (c : tie.After-check2) → let a = c .before .before .before .before .before .args in c .check2 .result ≡ refusal (checks (a .self) (Call.set-time (a .thread) (a .time)))
 unfolding refusal checks
 code-of c =
     let in-use = c .before .before in
     simp (c .check2 .ensures, c .before .check .ensures, in-use .in-use .ensures, in-use .before .visible .ensures)
 
-element-set-from-self : tie.Need-element-set-from-self
+array-set-from-threads : tie.Need-array-set-from-threads
 unfolding checks
-element-set-from-self c =
+array-set-from-threads c =
     let k = c .before .before in
-    let a = k .before .before .before .before .args in
-    used-inside (a .t1 .living) (passed (checks (a .t1) (Call.set-time (a .thread) (a .time))) (refl, (refl, tt)) (sym (code-of k) ∙ c .if1 .taken) .0)
+    let a = k .before .before .before .before .before .args in
+    used-inside (a .self .living) (passed (checks (a .self) (Call.set-time (a .thread) (a .time))) (refl, (refl, tt)) (sym (code-of k) ∙ c .if1 .taken) .0)
 
 returns : tie.Need-returns
 unfolding step effect value time
 returns c =
     let k = c .before .before in
-    let a = k .before .before .before .before .args in
-    accepted (a .t1) _ _ _ _ (code-of k) (c .before .with-code .ensures) (c .if1 .taken)
-
-returns-2 : tie.Need-returns-2
-unfolding step effect value time
-returns-2 c =
-    let k = c .before .before in
-    refused (k .before .before .before .before .args .t1) _ _ _ _ (code-of k) (c .before .with-code .ensures) (c .if1 .left)
+    let self = k .before .before .before .before .before .args .self in
+    joined self _ _ _ _ (code-of k) (c .before .with-code .ensures)
+    (λ through. (through .0 .taken, rw (through .1)))
+    (λ past. (past .0 .left, rw (past .1)))
+    (c .if1 .came)
 
 pub set-spec : {M : Type 1} → statement M
 set-spec =
@@ -63,7 +60,6 @@ set-spec =
     check-requires
     check-requires-2
     with-code-requires
-    mul-t15
-    element-set-from-self
-    returns
-    returns-2)
+    mul-threads
+    array-set-from-threads
+    returns)

@@ -1,6 +1,5 @@
 -- `tables::times::least_awaited` meets its contract. Assumes nothing.
-use mathlib.Core.Path.{_≡_, refl, sym, ap, _∙_}
-use mathlib.Core.Bool.{Bool, true, cond}
+use mathlib.Core.Path.{_≡_, refl, sym, _∙_}
 use native.Mathlib.Omega.{arith}
 use lib.ListN.{getD}
 use borrow.Author.Needs.{needs}
@@ -9,23 +8,23 @@ use Rattle.words.specs.Words.{has, lowest, count}
 use Rattle.words.proofs.Walk.{each-turn, each-done, each-falls}
 use Rattle.rows.specs.Numbers.{noItem}
 use Rattle.tables.specs.Tables.{table}
-use Rattle.tables.proofs.Least.{awaitStep, leastStep, await-turn, least-awaited-is}
+use Rattle.tables.proofs.Least.{awaitStep, leastStep, await-turn, asked-turn, asked-fewer, least-awaited-is}
 use Rattle.tables.proofs.times.least_awaited.Statement.{statement}
 use Rattle.tables.proofs.times.least_awaited.Tie as tie
 
 abbrev Inv-loop2 : tie.InvT-loop2
-Inv-loop2 attached present connections items least rest p item awaited₀ left₀ k₀ awaited left k =
+Inv-loop2 attached present time connections items least rest p item awaited₀ left₀ k₀ awaited left k =
     (k ≡ lowest left) × (each 32 (has left) (awaitStep (table attached connections) item p) awaited ≡ each 32 (has left₀) (awaitStep (table attached connections) item p) awaited₀)
 
 abbrev μ-loop2 : tie.MeasureT-loop2
-μ-loop2 attached present connections items least rest p item awaited₀ left₀ k₀ awaited left k = count left
+μ-loop2 attached present time connections items least rest p item awaited₀ left₀ k₀ awaited left k = count left
 
 abbrev Inv-loop : tie.InvT-loop
-Inv-loop attached present connections items least₀ rest₀ p₀ least rest p =
+Inv-loop attached present time connections items least₀ rest₀ p₀ least rest p =
     (p ≡ lowest rest) × (each 64 (has rest) (leastStep (table attached connections) (table present items)) least ≡ each 64 (has rest₀) (leastStep (table attached connections) (table present items)) least₀)
 
 abbrev μ-loop : tie.MeasureT-loop
-μ-loop attached present connections items least₀ rest₀ p₀ least rest p = count rest
+μ-loop attached present time connections items least₀ rest₀ p₀ least rest p = count rest
 
 lowest-requires : tie.Need-lowest-requires Inv-loop2 μ-loop2 Inv-loop μ-loop
 lowest-requires c κs = search needs
@@ -69,20 +68,26 @@ true-if-requires c κs = search needs
 without-requires : tie.Need-without-requires Inv-loop2 μ-loop2 Inv-loop μ-loop
 without-requires c κs = search needs
 
+still-asked-requires : tie.Need-still-asked-requires Inv-loop2 μ-loop2 Inv-loop μ-loop
+still-asked-requires c κs = search needs
+
 lowest-requires-3 : tie.Need-lowest-requires-3 Inv-loop2 μ-loop2 Inv-loop μ-loop
 lowest-requires-3 c κs = search needs
 
 loop2-less : tie.Need-loop2-less Inv-loop2 μ-loop2 Inv-loop μ-loop
 loop2-less c =
-    let turn = c .before .before .before .before .before in
-    each-falls _ (omega arith) (turn .before .loop2 .inv .0) (c .before .without .ensures)
+    let turn = c .before .before .before .before .before .before in
+    asked-fewer (c .before .before .before .true-if .result) _ (c .before .still-asked .ensures) (each-falls _ (omega arith) (turn .before .loop2 .inv .0) (c .before .before .without .ensures))
 
 loop2-again : tie.Need-loop2-again Inv-loop2 μ-loop2 Inv-loop μ-loop
 loop2-again c =
-    let turn = c .before .before .before .before .before in
+    let turn = c .before .before .before .before .before .before in
     let here = turn .before .loop2 in
-    let step = c .before .before .true-if .ensures ∙ ap (λ (t : Bool). cond t true (here .awaited)) (c .before .before .before .awaits .ensures) in
-    (c .lowest3 .ensures, each-turn 32 _ (here .left) (here .awaited) (omega arith) (turn .loop2-test .taken) (here .inv .0) step (c .before .without .ensures) (here .inv .1))
+    let outer = turn .before .before .before .before .before .before in
+    let args = outer .before .before .args in
+    let p = outer .loop .p in
+    let step = c .before .before .before .true-if .ensures in
+    (c .lowest3 .ensures, asked-turn (table (args .attached) (args .t1)) (getD (args .t3) p noItem) p (here .left) (here .awaited) (turn .loop2-test .taken) (here .inv .0) (c .before .before .before .before .awaits .ensures) step (c .before .before .without .ensures) (c .before .still-asked .ensures) (here .inv .1))
 
 least-if-requires : tie.Need-least-if-requires Inv-loop2 μ-loop2 Inv-loop μ-loop
 least-if-requires c κs = search needs
@@ -111,7 +116,7 @@ loop-again c =
 returns : tie.Need-returns Inv-loop2 μ-loop2 Inv-loop μ-loop
 returns c =
     let here = c .before .loop in
-    each-done 64 _ (here .rest) (c .loop-test .left) (here .inv .0) (here .inv .1) ∙ sym (least-awaited-is _ _)
+    each-done 64 _ (here .rest) (c .loop-test .left) (here .inv .0) (here .inv .1) ∙ sym (least-awaited-is _ _ _ (omega arith))
 
 pub least-awaited-spec : {M : Type 1} → statement M
 least-awaited-spec =
@@ -135,6 +140,7 @@ least-awaited-spec =
     awaits-requires
     true-if-requires
     without-requires
+    still-asked-requires
     lowest-requires-3
     loop2-less
     loop2-again
