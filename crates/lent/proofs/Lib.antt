@@ -3,3 +3,4 @@ pub mod Parameters
 pub mod Lent
 pub mod Swept
 pub mod Asked
+pub mod Passed

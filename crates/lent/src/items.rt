@@ -3,30 +3,44 @@ ghost use mathlib.Core.Path.{_≡_};
 ghost use Rattle.rows.specs.declared.Which.the-variants.{Earliest, Latest, Named};
 ghost use Rattle.desk.specs.Calls.{Call, step};
 ghost use Rattle.lent.specs.Lent.{lentBack};
+ghost use Rattle.lent.specs.Gets.{whichOf};
 use desk::Desk;
 use desk::Next;
 use rows::Answer;
 use rows::Which;
 
-// A get of the earliest item. No enum crosses to a host, so the three gets are three calls there.
-fn earliest(desk: Desk, thread: u32, connection: u32) -> Next
-    ensures { λ r. ⌜ r ≡ step desk (Call.get thread connection Earliest) ⌝ }
+const EARLIEST: u32 = 0;
+
+const LATEST: u32 = 1;
+
+const NAMED: u32 = 2;
+
+// Which item a get asks for, by its number here: no enum crosses to a host, so the three gets are three calls there.
+fn which_of(number: u32, timestamp: u32) -> Which
+    ensures { λ r. ⌜ r ≡ whichOf number timestamp ⌝ }
 {
-    desk.get(thread, connection, Which::Earliest)
+    match number {
+        EARLIEST => Which::Earliest,
+        LATEST => Which::Latest,
+        _ => Which::Named(timestamp),
+    }
 }
 
-// A get of the latest item.
-fn latest(desk: Desk, thread: u32, connection: u32) -> Next
-    ensures { λ r. ⌜ r ≡ step desk (Call.get thread connection Latest) ⌝ }
+// The by-value get, with the number of what it asks for.
+fn chosen(desk: Desk, thread: u32, connection: u32, number: u32, timestamp: u32) -> Next
+    ensures { λ r. ⌜ r ≡ step desk (Call.get thread connection (whichOf number timestamp)) ⌝ }
 {
-    desk.get(thread, connection, Which::Latest)
+    desk.get(thread, connection, which_of(number, timestamp))
 }
 
-// A get of the item with a named timestamp.
-fn named(desk: Desk, thread: u32, connection: u32, timestamp: u32) -> Next
-    ensures { λ r. ⌜ r ≡ step desk (Call.get thread connection (Named timestamp)) ⌝ }
+// The three gets are this one. A by-value call with one caller is compiled into it, and then copies one table and not the desk.
+fn get(desk: &mut Desk, thread: u32, connection: u32, number: u32, timestamp: u32) -> Answer
+    ensures { λ r. ⌜ lentBack r (now (desk .exit)) ≡ step (now (desk .entry)) (Call.get thread connection (whichOf number timestamp)) ⌝ }
 {
-    desk.get(thread, connection, Which::Named(timestamp))
+    let d = *desk;
+    let next = chosen(d, thread, connection, number, timestamp);
+    *desk = next.desk;
+    next.answer
 }
 
 #[no_mangle]
@@ -49,20 +63,14 @@ pub extern "C" fn desk_put(
 pub extern "C" fn desk_get_earliest(desk: &mut Desk, thread: u32, connection: u32) -> Answer
     ensures { λ r. ⌜ lentBack r (now (desk .exit)) ≡ step (now (desk .entry)) (Call.get thread connection Earliest) ⌝ }
 {
-    let d = *desk;
-    let next = earliest(d, thread, connection);
-    *desk = next.desk;
-    next.answer
+    get(desk, thread, connection, EARLIEST, 0)
 }
 
 #[no_mangle]
 pub extern "C" fn desk_get_latest(desk: &mut Desk, thread: u32, connection: u32) -> Answer
     ensures { λ r. ⌜ lentBack r (now (desk .exit)) ≡ step (now (desk .entry)) (Call.get thread connection Latest) ⌝ }
 {
-    let d = *desk;
-    let next = latest(d, thread, connection);
-    *desk = next.desk;
-    next.answer
+    get(desk, thread, connection, LATEST, 0)
 }
 
 #[no_mangle]
@@ -74,10 +82,7 @@ pub extern "C" fn desk_get_named(
 ) -> Answer
     ensures { λ r. ⌜ lentBack r (now (desk .exit)) ≡ step (now (desk .entry)) (Call.get thread connection (Named timestamp)) ⌝ }
 {
-    let d = *desk;
-    let next = named(d, thread, connection, timestamp);
-    *desk = next.desk;
-    next.answer
+    get(desk, thread, connection, NAMED, timestamp)
 }
 
 #[no_mangle]

@@ -1,11 +1,11 @@
--- `lent::items::desk_get_named` meets its contract, by the law of a lent call (`Lent.antt`), at `named`.
+-- `lent::items::desk_get_named` meets its contract, by the law of a desk that is passed on (`Passed.antt`), at `get`.
 use mathlib.Core.List.{[], _∷_}
 use package.mir.Syntax.{w32}
-use Rattle.rows.specs.declared.Which.the-variants.{Named}
 use Rattle.desk.specs.Calls.{Call}
-use Rattle.lent.proofs.Lent.{lent-of}
-use Rattle.lent.proofs.items.named.Symbol as callee
-use Rattle.lent.proofs.items.named.Met as proved
+use Rattle.lent.specs.Gets.{whichOf}
+use Rattle.lent.proofs.Passed.{own, constant, passed-of}
+use Rattle.lent.proofs.items.get.Symbol as callee
+use Rattle.lent.proofs.items.get.Met as proved
 use Rattle.lent.proofs.items.desk_get_named.Key.{name}
 use Rattle.lent.proofs.items.desk_get_named.Statement.{statement}
 use Rattle.lent.proofs.items.desk_get_named.Code as code
@@ -13,5 +13,6 @@ use Rattle.lent.proofs.items.desk_get_named.Code as code
 pub desk-get-named-spec : {M : Type 1} → statement M
 unfolding code.routine
 desk-get-named-spec 𝓤 H 𝓜 𝓖 𝓡 =
-    lent-of (w32 ∷ w32 ∷ w32 ∷ []) (λ x. Call.get (x .0) (x .1 .0) (Named (x .1 .1 .0))) 𝓤 H 𝓜 𝓖 𝓡 code.env name callee.name
+    passed-of (own w32 ∷ own w32 ∷ constant w32 _ ∷ own w32 ∷ []) (tt, tt)
+    (λ x. Call.get (x .0) (x .1 .0) (whichOf (x .1 .1 .0) (x .1 .1 .1 .0))) 𝓤 H 𝓜 𝓖 𝓡 code.env name callee.name
     (code.unfolded 𝓤 H 𝓜 𝓡) (proved.met 𝓤 H 𝓜 𝓖 𝓡)
