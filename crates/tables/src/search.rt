@@ -1,8 +1,7 @@
 // Searches through the items.
 ghost use mathlib.Core.Path.{_≡_};
-ghost use mathlib.Core.Bool.{_&&_, cond};
+ghost use mathlib.Core.Bool.{_&&_};
 ghost use Rattle.words.specs.Words.{less};
-ghost use Rattle.rows.specs.Choices.{preferred, sooner};
 ghost use Rattle.rows.specs.States.{lookedAt};
 ghost use Rattle.tables.specs.Tables.{table};
 ghost use Rattle.tables.specs.Seen.{placeOf};
@@ -49,17 +48,14 @@ fn is_wanted(which: Which, item: Item) -> bool
     }
 }
 
-// One item of a get's search: what was found before, or this item where it is looked at, wanted and better.
-fn tried(connection: Connection, which: Which, found: Found, place: u32, item: Item) -> Found
-    ensures { λ r. ⌜ r ≡ cond (lookedAt connection item && isWanted which item) (preferred (sooner which) found place item) found ⌝ }
+// Whether a get that asks so looks at the item, where that is neither got nor consumed by name.
+fn is_tried(connection: Connection, which: Which, item: Item) -> bool
+    ensures { λ r. ⌜ r ≡ (lookedAt connection item && isWanted which item) ⌝ }
 {
     if !connection.looks_at(item) {
-        return found;
+        return false;
     }
-    if !is_wanted(which, item) {
-        return found;
-    }
-    found.or_taken(which, place, item)
+    is_wanted(which, item)
 }
 
 // What a get through the connection finds among the items UNSEEN on it.
@@ -70,10 +66,13 @@ pub fn seek(items: [Item; 64], present: u64, connection: Connection, which: Whic
     let mut rest = unseen_places(connection, present);
     let mut p = words::lowest(rest);
     while p < 64 {
+        let place = p;
         let item = items[p as usize];
-        found = tried(connection, which, found, p, item);
         rest = words::without(rest, p);
         p = words::lowest(rest);
+        if is_tried(connection, which, item) {
+            found = found.or_taken(which, place, item);
+        }
     }
     found
 }

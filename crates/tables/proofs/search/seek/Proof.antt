@@ -65,6 +65,17 @@ module _ (items : List Item) (connection : Connection) (which : Which) where
       (isWanted which item)
       ∙ ap (λ (b : Bool). b && tried-at p) (sym in-word)
 
+  -- a turn of the loop where the item is tried, and one where it is not
+  tried-turn : (p : ℕ) (found : Found) {next : Found} → tried-at p ≡ true → next ≡ preferred (sooner which) found p (getD items p noItem) → next ≡ step p found
+  unfolding step
+  tried-turn p found tried taken =
+      taken ∙ ap (λ (b : Bool). cond b (preferred (sooner which) found p (getD items p noItem)) found) (sym tried)
+
+  idle-turn : (p : ℕ) (found : Found) → tried-at p ≡ false → found ≡ step p found
+  unfolding step
+  idle-turn p found idle =
+      ap (λ (b : Bool). cond b (preferred (sooner which) found p (getD items p noItem)) found) (sym idle)
+
   whole : (present : ℕ) → each 64 (has (unseen present connection)) step Nothing ≡ sought (table present items) connection which
   unfolding sought chosen step
   whole present = sym (each-and 64 _ Nothing _ (has (unseen present connection)) tried-at (counts present))
@@ -99,24 +110,32 @@ mul-item c = search needs
 array-copy-out-item : tie.Need-array-copy-out-item Inv-loop μ-loop
 array-copy-out-item c = search needs
 
-tried-requires : tie.Need-tried-requires Inv-loop μ-loop
-tried-requires c κs = search needs
-
 without-requires : tie.Need-without-requires Inv-loop μ-loop
 without-requires c κs = search needs
 
 lowest-requires-2 : tie.Need-lowest-requires-2 Inv-loop μ-loop
 lowest-requires-2 c κs = search needs
 
-loop-less : tie.Need-loop-less Inv-loop μ-loop
-loop-less c =
-    let turn = c .before .before .before .before in
+is-tried-requires : tie.Need-is-tried-requires Inv-loop μ-loop
+is-tried-requires c κs = search needs
+
+or-taken-requires : tie.Need-or-taken-requires Inv-loop μ-loop
+or-taken-requires c κs = search needs
+
+-- whatever the turn found, fewer places are left
+fewer : (c : tie.After-lowest2 Inv-loop μ-loop) → count (c .before .without .result) < count (c .before .before .before .before .loop .rest)
+fewer c =
+    let turn = c .before .before .before in
     each-falls (turn .before .loop .rest) (turn .loop-test .taken) (turn .before .loop .inv .0) (c .before .without .ensures)
 
-loop-again : tie.Need-loop-again Inv-loop μ-loop
-unfolding step tried-at
-loop-again c =
-    let turn = c .before .before .before .before in
+-- the invariant again, after a turn that made this of what was found
+again : (c : tie.After-lowest2 Inv-loop μ-loop) {next : Found}
+    → (let turn = c .before .before .before .before in let args = turn .before .before .before .args in next ≡ step (args .t1) (args .connection) (args .which) (turn .loop .p) (turn .loop .found))
+    → (let args = c .before .before .before .before .before .before .before .args in
+    (c .lowest2 .result ≡ lowest (c .before .without .result))
+    × (each 64 (has (c .before .without .result)) (step (args .t1) (args .connection) (args .which)) next ≡ sought (table (args .present) (args .t1)) (args .connection) (args .which)))
+again c stepped =
+    let turn = c .before .before .before in
     let at = turn .before in
     let args = at .before .before .before .args in (
       c .lowest2 .ensures,
@@ -128,10 +147,27 @@ loop-again c =
           (omega arith)
           (turn .loop-test .taken)
           (at .loop .inv .0)
-          (c .before .before .tried .ensures)
+          stepped
           (c .before .without .ensures)
           (at .loop .inv .1),
     )
+
+loop-less : tie.Need-loop-less Inv-loop μ-loop
+loop-less c = fewer (c .before .before .before)
+
+loop-again : tie.Need-loop-again Inv-loop μ-loop
+unfolding tried-at
+loop-again c =
+    let asked = c .before .before in
+    again (asked .before) (tried-turn _ _ _ _ _ (sym (asked .is-tried .ensures) ∙ c .before .if1 .taken) (c .or-taken .ensures))
+
+loop-less-2 : tie.Need-loop-less-2 Inv-loop μ-loop
+loop-less-2 c = fewer (c .before .before)
+
+loop-again-2 : tie.Need-loop-again-2 Inv-loop μ-loop
+unfolding tried-at
+loop-again-2 c =
+    again (c .before .before) (idle-turn _ _ _ _ _ (sym (c .before .is-tried .ensures) ∙ c .if1 .left))
 
 returns : tie.Need-returns Inv-loop μ-loop
 returns c =
@@ -149,9 +185,12 @@ seek-spec =
     cast-item
     mul-item
     array-copy-out-item
-    tried-requires
     without-requires
     lowest-requires-2
+    is-tried-requires
+    or-taken-requires
     loop-less
     loop-again
+    loop-less-2
+    loop-again-2
     returns)
