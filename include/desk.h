@@ -147,12 +147,14 @@ DeskAnswer desk_get_latest(Desk *desk, uint32_t thread, uint32_t connection);
 DeskAnswer desk_get_named(Desk *desk, uint32_t thread, uint32_t connection, uint32_t timestamp);
 /* The OPEN item with this timestamp becomes CONSUMED on the connection. 1, 3, 4, 5, 11 */
 DeskAnswer desk_consume(Desk *desk, uint32_t thread, uint32_t connection, uint32_t timestamp);
-/* Raises the connection's mark above the timestamp: all up to it is CONSUMED there. 1, 3, 4, 5 */
+/* Raises the connection's mark above the timestamp, where it is not above already: all up to it is CONSUMED there.
+ * 1, 3, 4, 5 */
 DeskAnswer desk_consume_until(Desk *desk, uint32_t thread, uint32_t connection, uint32_t timestamp);
 
 /* Sweeps. All items below the bound leave the desk, and their tickets go to the front of the lent slice by channel
- * number, then timestamp; the rest of the slice stays as it is. The value is their number, the time the bound. A slice
- * of DESK_ITEMS places is always long enough. */
+ * number, then timestamp; the rest of the slice stays as it is. On every input connection a mark below the bound is
+ * raised to it. The value is the number of tickets, the time the bound. A slice of DESK_ITEMS places is always long
+ * enough. */
 
 /* Sweeps up to the weak bound. 12 */
 DeskAnswer desk_weak_sweep(Desk *desk, uint64_t *slice, size_t length);

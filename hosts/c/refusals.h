@@ -12,7 +12,7 @@ static const char *const refusals[] = {
     "time below the caller's visible time; choose a time from the visible time upwards",
     "timestamp already present in the channel; each timestamp once",
     "64 items present; sweep first",
-    "the table has no free place; end a thread or detach a connection first",
+    "the table has no free place; end a thread or detach a connection first; channels stay",
     "no UNSEEN item that fits; nothing new to get through this connection",
     "item is not OPEN on the connection; get it before you consume it",
     "slice shorter than the items to hand back; the value says how long it has to be",

@@ -32,7 +32,7 @@ MEANINGS = {
     6: ("time below the caller's visible time", "choose a time from the visible time upwards"),
     7: ("timestamp already present in the channel", "each timestamp once"),
     8: ("64 items present", "sweep first"),
-    9: ("the table has no free place", "end a thread or detach a connection first"),
+    9: ("the table has no free place", "end a thread or detach a connection first; channels stay"),
     10: ("no UNSEEN item that fits", "nothing new to get through this connection"),
     11: ("item is not OPEN on the connection", "get it before you consume it"),
     12: ("slice shorter than the items to hand back", "the value says how long it has to be"),

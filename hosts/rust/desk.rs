@@ -43,7 +43,7 @@ pub const MEANINGS: [(&str, &str); 12] = [
     ("64 items present", "sweep first"),
     (
         "the table has no free place",
-        "end a thread or detach a connection first",
+        "end a thread or detach a connection first; channels stay",
     ),
     (
         "no UNSEEN item that fits",

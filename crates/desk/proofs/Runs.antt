@@ -20,6 +20,8 @@ pub mod Swept
 pub mod Tickets
 pub mod Exactly
 pub mod Accounts
+pub mod Counted
+pub mod Deserted
 pub mod Twice
 pub mod Onward
 pub mod Forward

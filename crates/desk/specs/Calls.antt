@@ -1,6 +1,6 @@
 -- Document 01, "Calls, and the order of their checks" and "Sweeps": each call as its refusals in order, its effect, its value and its time.
 -- Assumes nothing.
-use mathlib.Core.Bool.{Bool, true, false, cond, not}
+use mathlib.Core.Bool.{Bool, true, false, cond}
 use mathlib.Core.List.{List, [], _∷_}
 use Prim.Native.Nat.{ℕ, _+_}
 use lib.Dec.{eqb, leb, ltb}

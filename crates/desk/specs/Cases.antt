@@ -48,6 +48,10 @@ consumedThree =
     ∷ consume 0 0 3
     ∷ []
 
+-- P10: the same, after P9's sweep
+abbrev pub sweptAtThree : List Call
+sweptAtThree = consumedThree ++ strong-sweep [] ∷ []
+
 abbrev pub cases : List Case
 cases =
     -- P1: fresh desk: both bounds 0
@@ -80,9 +84,9 @@ cases =
     ∷ expect consumedThree (ask strong-bound) (answer 0 0 3)
     ∷ expect consumedThree (call (strong-sweep [])) (answer 0 0 3)
     -- P10: from P9: new thread at 3, attach, get 3 accepted; new thread at 2 refused with 6
-    ∷ expect consumedThree (call (new-thread 0 3)) (answer 0 1 0)
-    ∷ expect (consumedThree ++ new-thread 0 3 ∷ attach-input 1 0 ∷ []) (call (get 1 1 (Named 3))) (answer 0 300 3)
-    ∷ expect consumedThree (call (new-thread 0 2)) (answer 6 0 0)
+    ∷ expect sweptAtThree (call (new-thread 0 3)) (answer 0 1 0)
+    ∷ expect (sweptAtThree ++ new-thread 0 3 ∷ attach-input 1 0 ∷ []) (call (get 1 1 (Named 3))) (answer 0 300 3)
+    ∷ expect sweptAtThree (call (new-thread 0 2)) (answer 6 0 0)
     ∷ []
 
 abbrev pub answerOf : Desk → Last → Answer

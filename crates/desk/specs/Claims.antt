@@ -1,27 +1,27 @@
 -- What holds of every run, as statements. Their proofs stand in proofs/, under the names given here. Assumes nothing.
 use mathlib.Core.Path.{_≡_}
-use mathlib.Core.Bool.{true, false, cond}
+use mathlib.Core.Bool.{true, false, cond, _&&_}
 use mathlib.Core.List.{List, [], _∷_, _++_, map}
 use mathlib.Core.Logic.{_↔_, _⊎_}
 use Prim.Native.Nat.{ℕ, _+_, _^_, _≤_, _<_}
 use lib.Dec.{eqb}
 use lib.ListN.{drop, length}
+use Rattle.words.specs.Places.{foldTo, countOf}
 use Rattle.words.specs.Words.{has}
 use Rattle.rows.specs.declared.Connection.{Connection}
 use Rattle.rows.specs.Answers.{answer}
 use Rattle.rows.specs.Choices.{before}
 use Rattle.rows.specs.Numbers.{never, noThread, noConnection, noItem, input, output}
 use Rattle.rows.specs.States.{stateNumber}
-use Rattle.tables.specs.Tables.{threadAt, connectionAt, itemAt, isLiving, isInput, isPresent, threadPlaces, connectionPlaces, itemPlaces}
+use Rattle.tables.specs.Tables.{threadAt, connectionAt, itemAt, isLiving, isInput, isPresent, threadPlaces, channelPlaces, connectionPlaces, itemPlaces}
 use Rattle.tables.specs.Seen.{state}
 use Rattle.tables.specs.Times.{keepTime}
-use Rattle.leaving.specs.Leaving.{leaves}
 use Rattle.desk.specs.declared.Desk.{Desk}
 use Rattle.desk.specs.Desk.{threadsOf, connectionsOf, itemsOf, isChannel, fresh}
 use Rattle.desk.specs.Times.{weakBound, strongBound}
 use Rattle.desk.specs.Calls.{Call, new-channel, new-thread, attach-input, attach-output, detach, end, set-time, put, get, consume, consume-until, weak-sweep, strong-sweep, step, sliceAfter}
 use Rattle.desk.specs.Questions.{items-present, reply}
-use Rattle.desk.specs.Runs.{Passable, AllPassable, Reached, after, Accepted, CouldBeGot}
+use Rattle.desk.specs.Runs.{Passable, AllPassable, Reached, after, Accepted, isSweep, CouldBeGot}
 
 -- ---- demand 3
 
@@ -39,26 +39,41 @@ InLine d (first ∷ places) =
 abbrev pub ticketsAt : Desk → List ℕ → List ℕ
 ticketsAt d places = map (λ place. itemAt (itemsOf d) place .ticket) places
 
+-- what a sweep does where it takes this bound and the items in these places, one list in line, are to leave: a slice at least as long gets their
+-- tickets at its front and is otherwise as it was, and exactly they leave the desk; with a shorter one the sweep is refused and nothing changes
+pub record HandsBack (d : Desk) (sweep : List ℕ → Call) (bound : ℕ) (places : List ℕ) : Type 0 where
+  pub in-line : InLine d places
+  pub answer-long : (slice : List ℕ) → length places ≤ length slice → step d (sweep slice) .answer ≡ answer 0 (length places) bound
+  pub slice-long : (slice : List ℕ) → length places ≤ length slice → sliceAfter d (sweep slice) ≡ ticketsAt d places ++ drop (length places) slice
+  pub stays : (slice : List ℕ) → length places ≤ length slice → (place : ℕ)
+      → (isPresent (itemsOf (step d (sweep slice) .desk)) place ≡ true) ↔ ((isPresent (itemsOf d) place ≡ true) × (Among place places → ⊥))
+  pub as-it-was : (slice : List ℕ) → length places ≤ length slice → (place : ℕ) → isPresent (itemsOf (step d (sweep slice) .desk)) place ≡ true
+      → itemAt (itemsOf (step d (sweep slice) .desk)) place ≡ itemAt (itemsOf d) place
+  pub answer-short : (slice : List ℕ) → length slice < length places → step d (sweep slice) .answer ≡ answer 12 (length places) 0
+  pub desk-short : (slice : List ℕ) → length slice < length places → step d (sweep slice) .desk ≡ d
+  pub slice-short : (slice : List ℕ) → length slice < length places → sliceAfter d (sweep slice) ≡ slice
+
 -- "a strong sweep with a long enough slice hands back exactly the present items that no further run of accepted calls other than sweeps
--- could get, by a thread now living or yet to be created": there is one list of places, in line, that holds exactly those items. A slice at
--- least as long gets their tickets at its front and is otherwise as it was, and exactly they leave the desk; a shorter one is refused.
+-- could get, by a thread now living or yet to be created", and what stays could be got
 pub record HandsBackExactly (d : Desk) : Type 0 where
   pub places : List ℕ
   pub exactly : (place : ℕ) → Among place places ↔ ((isPresent (itemsOf d) place ≡ true) × (CouldBeGot d place → ⊥))
-  pub in-line : InLine d places
-  pub answer-long : (slice : List ℕ) → length places ≤ length slice → step d (strong-sweep slice) .answer ≡ answer 0 (length places) (strongBound d)
-  pub slice-long : (slice : List ℕ) → length places ≤ length slice → sliceAfter d (strong-sweep slice) ≡ ticketsAt d places ++ drop (length places) slice
-  pub stays : (slice : List ℕ) → length places ≤ length slice → (place : ℕ)
-      → (isPresent (itemsOf (step d (strong-sweep slice) .desk)) place ≡ true) ↔ ((isPresent (itemsOf d) place ≡ true) × (Among place places → ⊥))
-  pub as-it-was : (slice : List ℕ) → length places ≤ length slice → (place : ℕ) → isPresent (itemsOf (step d (strong-sweep slice) .desk)) place ≡ true
-      → itemAt (itemsOf (step d (strong-sweep slice) .desk)) place ≡ itemAt (itemsOf d) place
-  pub answer-short : (slice : List ℕ) → length slice < length places → step d (strong-sweep slice) .answer ≡ answer 12 (length places) 0
-  pub desk-short : (slice : List ℕ) → length slice < length places → step d (strong-sweep slice) .desk ≡ d
-  pub slice-short : (slice : List ℕ) → length slice < length places → sliceAfter d (strong-sweep slice) ≡ slice
+  pub kept : (place : ℕ) → isPresent (itemsOf d) place ≡ true → (Among place places → ⊥) → CouldBeGot d place
+  pub hands-back : HandsBack d strong-sweep (strongBound d) places
 
 -- proved as `swept-exactly-the-unreachable`
 abbrev pub SweptExactlyTheUnreachable : Type 0
 SweptExactlyTheUnreachable = (d : Desk) → Reached d → HandsBackExactly d
+
+-- a weak sweep hands back only what no further run could get, and so only what a strong one would
+pub record HandsBackOnly (d : Desk) : Type 0 where
+  pub places : List ℕ
+  pub only : (place : ℕ) → Among place places → (isPresent (itemsOf d) place ≡ true) × (CouldBeGot d place → ⊥)
+  pub hands-back : HandsBack d weak-sweep (weakBound d) places
+
+-- `weakly-swept-only-the-unreachable`
+abbrev pub WeaklySweptOnlyTheUnreachable : Type 0
+WeaklySweptOnlyTheUnreachable = (d : Desk) → Reached d → HandsBackOnly d
 
 -- ---- the bounds
 
@@ -70,18 +85,20 @@ StrongNeverFalls = (d : Desk) → Reached d → (call : Call) → Passable call 
 abbrev pub WeakNeverFalls : Type 0
 WeakNeverFalls = (d : Desk) → Reached d → (call : Call) → Passable call → weakBound d ≤ weakBound (step d call .desk)
 
--- so a weak sweep hands back only what a strong one would: `weak-below-strong`, `weak-sweep-takes-less`
+-- the weak bound is never above the strong one: `weak-below-strong`
 abbrev pub WeakBelowStrong : Type 0
 WeakBelowStrong = (d : Desk) → Reached d → weakBound d ≤ strongBound d
-
-abbrev pub WeakSweepTakesLess : Type 0
-WeakSweepTakesLess =
-    (d : Desk) → Reached d → (place : ℕ) → leaves (itemsOf d) (weakBound d) place ≡ true → leaves (itemsOf d) (strongBound d) place ≡ true
 
 -- "With no living thread both bounds are never.": `never-without-threads`
 abbrev pub NeverWithoutThreads : Type 0
 NeverWithoutThreads =
     (d : Desk) → Reached d → ((thread : ℕ) → isLiving (threadsOf d) thread ≡ false) → (weakBound d ≡ never) × (strongBound d ≡ never)
+
+-- "If the last thread ends, every later call that names a thread is refused.": every call but a sweep names one: `refused-without-threads`
+abbrev pub RefusedWithoutThreads : Type 0
+RefusedWithoutThreads =
+    (d : Desk) → ((thread : ℕ) → isLiving (threadsOf d) thread ≡ false)
+    → (calls : List Call) (call : Call) → isSweep call ≡ false → step (after d calls) call .answer ≡ answer 1 0 0
 
 -- ---- what a connection has seen only moves forward (000, section 3.2: ABSENT, UNSEEN, OPEN, CONSUMED)
 
@@ -116,19 +133,7 @@ putsBy (strong-sweep slice) = 0
 
 -- the tickets that an accepted sweep handed back, by the value of its answer
 abbrev pub ticketsBy : Call → ℕ → ℕ
-ticketsBy (new-channel thread) value = 0
-ticketsBy (new-thread thread time) value = 0
-ticketsBy (attach-input thread channel) value = 0
-ticketsBy (attach-output thread channel) value = 0
-ticketsBy (detach thread connection) value = 0
-ticketsBy (end thread) value = 0
-ticketsBy (set-time thread time) value = 0
-ticketsBy (put thread connection timestamp ticket) value = 0
-ticketsBy (get thread connection which) value = 0
-ticketsBy (consume thread connection timestamp) value = 0
-ticketsBy (consume-until thread connection timestamp) value = 0
-ticketsBy (weak-sweep slice) value = value
-ticketsBy (strong-sweep slice) value = value
+ticketsBy call value = cond (isSweep call) value 0
 
 abbrev pub ifAccepted : ℕ → ℕ → ℕ
 ifAccepted code number = cond (eqb code 0) number 0
@@ -148,6 +153,15 @@ abbrev pub AccountsBalance : Type 0
 AccountsBalance =
     (calls : List Call) → AllPassable calls
     → acceptedPuts fresh calls ≡ reply (after fresh calls) items-present .value + ticketsBack fresh calls
+
+-- "the items present are counted from the channels": the number that the question answers is that of the items in each channel, taken together:
+-- `counted-from-the-channels`
+abbrev pub itemsIn : Desk → ℕ → ℕ
+itemsIn d channel = countOf (λ place. isPresent (itemsOf d) place && eqb (itemAt (itemsOf d) place .channel) channel) itemPlaces
+
+abbrev pub CountedFromTheChannels : Type 0
+CountedFromTheChannels =
+    (d : Desk) → Reached d → reply d items-present .value ≡ foldTo (λ channel number. number + itemsIn d channel) 0 channelPlaces
 
 -- "No pair of channel and timestamp is accepted twice.": of two puts with any calls before and between them, both to one channel and timestamp,
 -- not both are accepted: `no-pair-twice`
@@ -183,7 +197,7 @@ pub record InOrder (d : Desk) : Type 0 where
   pub connection-rows : length (d .connections) ≡ connectionPlaces
   pub item-rows : length (d .items) ≡ itemPlaces
   pub living : (thread : ℕ) → has (d .living) thread ≡ true → thread < threadPlaces
-  pub channels : (channel : ℕ) → has (d .channels) channel ≡ true → channel < 8
+  pub channels : (channel : ℕ) → has (d .channels) channel ≡ true → channel < channelPlaces
   pub attached : (connection : ℕ) → has (d .attached) connection ≡ true → connection < connectionPlaces
   pub present : (place : ℕ) → has (d .present) place ≡ true → place < itemPlaces
   -- "A free place holds zeros only."

@@ -267,7 +267,7 @@ unfolding count countOf has
 count-none = refl
 
 -- the places that pass f, by whether they pass g
-split-of : (f g : ℕ → Bool) (n : ℕ) → countOf (λ i. f i && g i) n + countOf (λ i. f i && not (g i)) n ≡ countOf f n
+pub split-of : (f g : ℕ → Bool) (n : ℕ) → countOf (λ i. f i && g i) n + countOf (λ i. f i && not (g i)) n ≡ countOf f n
 unfolding countOf
 split-of f g zero = refl
 split-of f g (suc n) = omega (arith, split-of f g n, go (f n) (g n))

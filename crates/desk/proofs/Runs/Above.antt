@@ -6,19 +6,17 @@ use Prim.Native.Nat.{ℕ, _≤_, _<_}
 use native.Mathlib.Nat.{le-refl, le-antisymm}
 use native.Mathlib.Decide.{decLe}
 use native.Mathlib.Omega.{arith}
-use borrow.Author.Tests.{ltb-true, lt-ltb}
 use Rattle.words.specs.Words.{has}
 use Rattle.rows.specs.declared.Item.{Item}
 use Rattle.rows.specs.Numbers.{never}
-use Rattle.rows.proofs.Laws.{Pass, and-left, and-right, and-both, true-not-false}
+use Rattle.rows.proofs.Laws.{Pass, true-not-false}
 use Rattle.tables.specs.Tables.{threadAt, connectionAt, itemAt, isLiving}
 use Rattle.tables.specs.Times.{leastTime, isAwaited, leastAwaited}
-use Rattle.leaving.specs.Leaving.{leaves}
 use Rattle.desk.specs.declared.Desk.{Desk}
 use Rattle.desk.specs.Desk.{threadsOf, connectionsOf, itemsOf}
-use Rattle.desk.specs.Times.{visibleTime, weakBound, strongBound}
+use Rattle.desk.specs.Times.{visibleTime, strongBound}
 use Rattle.desk.specs.Calls.{Call, checks, effect, step}
-use Rattle.desk.specs.Claims.{InOrder, StrongNeverFalls, WeakBelowStrong, WeakSweepTakesLess, NeverWithoutThreads}
+use Rattle.desk.specs.Claims.{InOrder, StrongNeverFalls, WeakBelowStrong, NeverWithoutThreads}
 use Rattle.desk.proofs.Runs.Basics.{step-keeps}
 use Rattle.desk.proofs.Runs.Order.{every-desk-in-order}
 use Rattle.desk.proofs.Runs.Folds.{smallest-le, smallest-glb, smallest-at}
@@ -143,13 +141,6 @@ pub weak-below-strong : WeakBelowStrong
 weak-below-strong d r =
     let a = weak-above d in
     above-strong (record { top = a .top; times = a .times; pending = marks-pending a })
-
-pub weak-sweep-takes-less : WeakSweepTakesLess
-unfolding leaves
-weak-sweep-takes-less d r place taken =
-    let early = ltb-true (itemAt (itemsOf d) place .timestamp) (weakBound d) (and-right (has (d .present) place) _ taken) in
-    and-both {a = has (d .present) place} (and-left _ _ taken)
-    (lt-ltb (itemAt (itemsOf d) place .timestamp) (strongBound d) (omega (arith, weak-below-strong d r)))
 
 -- without a living thread there is no connection either, and so nothing to take a smallest of
 pub never-without-threads : NeverWithoutThreads

@@ -8,12 +8,10 @@ use lib.Dec.{eqb, ltb, leb·zero, leb·suc-suc}
 use lib.ListN.{length}
 use borrow.Author.Tests.{eqb-true, not-false}
 use Rattle.words.specs.Places.{lowestOf}
-use Rattle.words.specs.Words.{has, both}
 use Rattle.words.proofs.Laws.{lowest-before, has-none}
 use Rattle.rows.specs.declared.State.the-variants.{Consumed}
 use Rattle.rows.specs.declared.Which.the-variants.{Earliest, Named}
 use Rattle.rows.specs.Answers.{answer}
-use Rattle.rows.specs.Facts.{got}
 use Rattle.rows.specs.Numbers.{never}
 use Rattle.tables.specs.Tables.{connectionAt, itemAt, isLiving, isPresent, isInput}
 use Rattle.tables.specs.Seen.{state}

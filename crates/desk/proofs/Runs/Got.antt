@@ -27,7 +27,7 @@ use Rattle.desk.specs.Desk.{connectionsOf, itemsOf}
 use Rattle.desk.specs.Calls.{Call, get, checks, effect, value, time, step, isFound, soughtBy, opened, withConnection}
 use Rattle.desk.specs.Runs.{Passable}
 use Rattle.desk.specs.Claims.{InOrder}
-use Rattle.desk.proofs.Owned.{used-inside as used-inside}
+use Rattle.desk.proofs.Owned.{used-inside}
 use Rattle.desk.proofs.Runs.Basics.{step-accepted}
 use Rattle.desk.proofs.Runs.Above.{Pends, pends}
 use Rattle.desk.proofs.Runs.Chosen.{sought-found, sought-some}
