@@ -7,8 +7,8 @@ use crate::is_owned;
 use rows::Answer;
 use rows::Connection;
 use rows::answers::check;
-use tables::places::connection_at;
 use tables::places::in_use;
+use tables::places::within;
 
 impl Desk {
     // A new connection in the lowest free place, with this direction and mark.
@@ -59,7 +59,7 @@ impl Desk {
         ensures { λ r. ⌜ r ≡ step self (Call.detach thread connection) ⌝ }
     {
         let mut connections = self.connections;
-        let row = connection_at(connections, connection);
+        let row = connections[within(connection, Desk::CONNECTIONS) as usize];
         let code = check(
             in_use(self.living, thread, Desk::THREADS),
             1,

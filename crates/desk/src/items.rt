@@ -10,8 +10,8 @@ use rows::Found;
 use rows::Item;
 use rows::Which;
 use rows::answers::check;
-use tables::places::connection_at;
 use tables::places::in_use;
+use tables::places::within;
 use tables::search::find;
 use tables::search::seek;
 
@@ -43,7 +43,7 @@ impl Desk {
         let connections = self.connections;
         let mut items = self.items;
         let visible = self.visible(thread);
-        let row = connection_at(connections, connection);
+        let row = connections[within(connection, Desk::CONNECTIONS) as usize];
         let same = find(items, self.present, row.channel, timestamp);
         let place = words::lowest_free(self.present);
         let room = words::count(self.present);
@@ -86,7 +86,7 @@ impl Desk {
     {
         let mut connections = self.connections;
         let items = self.items;
-        let row = connection_at(connections, connection);
+        let row = connections[within(connection, Desk::CONNECTIONS) as usize];
         let found = seek(items, self.present, row, which);
         let code = check(
             in_use(self.living, thread, Desk::THREADS),
@@ -120,7 +120,7 @@ impl Desk {
     {
         let mut connections = self.connections;
         let items = self.items;
-        let row = connection_at(connections, connection);
+        let row = connections[within(connection, Desk::CONNECTIONS) as usize];
         let place = find(items, self.present, row.channel, timestamp);
         let code = check(
             in_use(self.living, thread, Desk::THREADS),
@@ -151,7 +151,7 @@ impl Desk {
         ensures { λ r. ⌜ r ≡ step self (Call.consume-until thread connection timestamp) ⌝ }
     {
         let mut connections = self.connections;
-        let row = connection_at(connections, connection);
+        let row = connections[within(connection, Desk::CONNECTIONS) as usize];
         let code = check(
             in_use(self.living, thread, Desk::THREADS),
             1,

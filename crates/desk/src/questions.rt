@@ -5,8 +5,8 @@ use crate::Desk;
 use rows::Answer;
 use rows::Connection;
 use rows::answers::check;
-use tables::places::connection_at;
 use tables::places::in_use;
+use tables::places::within;
 use tables::search::find;
 
 impl Desk {
@@ -35,7 +35,7 @@ impl Desk {
     {
         let connections = self.connections;
         let items = self.items;
-        let row = connection_at(connections, connection);
+        let row = connections[within(connection, Desk::CONNECTIONS) as usize];
         let place = find(items, self.present, row.channel, timestamp);
         let code = check(
             in_use(self.attached, connection, Desk::CONNECTIONS),

@@ -1,9 +1,10 @@
 // Which places of a table are used, and what stands in one.
 ghost use mathlib.Core.Path.{_≡_};
+ghost use mathlib.Core.Bool.{cond};
+ghost use lib.Dec.{ltb};
 ghost use lib.ListN.{getD};
-ghost use Rattle.rows.specs.Numbers.{noThread, noConnection};
+ghost use Rattle.rows.specs.Numbers.{noThread};
 ghost use Rattle.tables.specs.Tables.{inUse};
-use rows::Connection;
 use rows::Thread;
 
 // Whether the place is one of the table's places, and used.
@@ -26,12 +27,12 @@ pub fn thread_at(threads: [Thread; 16], place: u32) -> Thread
     threads[place as usize]
 }
 
-// The connection in a place; zeros for a number past the table.
-pub fn connection_at(connections: [Connection; 32], place: u32) -> Connection
-    ensures { λ r. ⌜ r ≡ getD connections place noConnection ⌝ }
+// The place itself, or the first one for a number past the table: an index that is always inside.
+pub fn within(place: u32, places: u32) -> u32
+    ensures { λ r. ⌜ r ≡ cond (ltb place places) place 0 ⌝ }
 {
-    if place >= 32 {
-        return Connection::NONE;
+    if place < places {
+        return place;
     }
-    connections[place as usize]
+    0
 }

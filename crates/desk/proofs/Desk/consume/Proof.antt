@@ -1,21 +1,21 @@
 -- `desk::Desk::consume` meets its contract. Assumes nothing.
 use mathlib.Core.Path.{_≡_, refl}
-use Prim.Native.Nat.{_<_}
+use mathlib.Core.Bool.{true}
 use native.Mathlib.Omega.{arith}
 use borrow.Author.Needs.{needs}
 use Rattle.rows.specs.Answers.{refusal}
-use Rattle.tables.specs.Tables.{owns}
+use Rattle.tables.specs.Tables.{inUse, owns}
 use Rattle.tables.specs.Seen.{state}
 use Rattle.desk.specs.declared.Desk.{Desk}
 use Rattle.desk.specs.Calls.{Call, step, checks, effect, value, time}
 use Rattle.desk.proofs.Outcome.{joined}
-use Rattle.desk.proofs.Owned.{accepted-below}
+use Rattle.desk.proofs.Owned.{used-inside, read-inside, used-own, by-use, accepted-used}
 use Rattle.desk.proofs.Desk.consume.Statement.{statement}
 use Rattle.desk.proofs.Desk.consume.Tie as tie
 
 -- of the place where the code is known: the start, the desk, and the call that 01 describes
 abbrev start : tie.After-check5 → tie.Start
-start c = c .before .before .before .before .before .before .before .before .before .before .before .before .before .before
+start c = c .before .before .before .before .before .before .before .before .before .before .before .before .before .before .before
 
 abbrev desk-of : tie.After-check5 → Desk
 desk-of c = start c .args .self
@@ -29,8 +29,7 @@ unfolding refusal checks owns state
 code-of c =
     let opened = c .before .before .before .before .before in
     let owned = opened .before .before .before in
-    simp (
-      c .check5 .ensures,
+    let decided = simp (
       c .before .check4 .ensures,
       c .before .before .check3 .ensures,
       c .before .before .before .check2 .ensures,
@@ -40,17 +39,27 @@ code-of c =
       owned .is-owned .ensures,
       owned .before .in-use .ensures,
       owned .before .before .find .ensures,
-      owned .before .before .before .connection-at .ensures,
-    )
+      owned .before .before .before .before .within .ensures,
+    ) at (c .check5 .ensures) in
+    by-use (desk-of c) (start c .args .connection) (λ own. rw own at decided) (λ unused. rw unused (rw unused at decided))
 
--- an accepted call names one of the 32 places
-connection-below : (c : tie.After-check5) → c .check5 .result ≡ 0 → start c .args .connection < 32
+-- an accepted call names a connection in use
+connection-used : (c : tie.After-check5) → c .check5 .result ≡ 0 → inUse (desk-of c .attached) (start c .args .connection) 32 ≡ true
 unfolding checks
-connection-below c zero =
-    accepted-below (desk-of c) (start c .args .thread) (start c .args .connection) _ (code-of c) (refl, (refl, (refl, tt))) zero
+connection-used c zero =
+    accepted-used (desk-of c) (start c .args .thread) (start c .args .connection) _ (code-of c) (refl, (refl, (refl, tt))) zero
 
-connection-at-requires : tie.Need-connection-at-requires
-connection-at-requires c κs = search needs
+within-requires : tie.Need-within-requires
+within-requires c κs = search needs
+
+cast-row : tie.Need-cast-row
+cast-row c = search needs
+
+mul-row : tie.Need-mul-row
+mul-row c = search needs
+
+array-copy-out-row : tie.Need-array-copy-out-row
+array-copy-out-row c = rw (c .within .ensures) (read-inside (c .before .before .before .args .connection))
 
 find-requires : tie.Need-find-requires
 find-requires c κs = search needs
@@ -90,11 +99,11 @@ consumed-by-name-requires c κs = search needs
 
 mul-connections : tie.Need-mul-connections
 mul-connections c =
-    let inside = connection-below (c .before .before .before) (c .before .if1 .taken) in
+    let inside = used-inside _ (connection-used (c .before .before .before) (c .before .if1 .taken)) in
     omega arith
 
 array-set-from-connections : tie.Need-array-set-from-connections
-array-set-from-connections c = connection-below (c .before .before .before) (c .before .if1 .taken)
+array-set-from-connections c = used-inside _ (connection-used (c .before .before .before) (c .before .if1 .taken))
 
 returns : tie.Need-returns
 unfolding step effect value time
@@ -102,7 +111,7 @@ returns c =
     let checked = c .before .before in
     let found = checked .before .before .before .before .before .before .before .before .before .before in
     joined (desk-of checked) _ _ _ _ (code-of checked) (c .before .with-code .ensures)
-    (λ through. (through .0 .taken, rw (through .2, through .1 .ensures, found .find .ensures, found .before .connection-at .ensures)))
+    (λ through. (through .0 .taken, rw (through .2, through .1 .ensures, found .find .ensures, found .before .before .within .ensures, used-own (desk-of checked) _ (connection-used checked (through .0 .taken)))))
     (λ past. (past .0 .left, rw (past .1)))
     (c .if1 .came)
 
@@ -110,7 +119,10 @@ pub consume-spec : {M : Type 1} → statement M
 consume-spec =
     tie.close
     (tie.spec
-    connection-at-requires
+    within-requires
+    cast-row
+    mul-row
+    array-copy-out-row
     find-requires
     in-use-requires
     is-owned-requires

@@ -1,5 +1,6 @@
 -- `desk::Desk::consume_until` meets its contract. Assumes nothing.
 use mathlib.Core.Path.{_≡_, refl, sym, _∙_}
+use mathlib.Core.Bool.{true}
 use Prim.Native.Nat.{_<_}
 use native.Mathlib.Omega.{arith}
 use borrow.Author.Needs.{needs}
@@ -7,17 +8,17 @@ use borrow.Author.Tests.{ltb-true}
 use Rattle.rows.specs.Answers.{refusal}
 use Rattle.rows.specs.Numbers.{never}
 use Rattle.rows.proofs.Laws.{passed}
-use Rattle.tables.specs.Tables.{owns}
+use Rattle.tables.specs.Tables.{inUse, owns}
 use Rattle.desk.specs.declared.Desk.{Desk}
 use Rattle.desk.specs.Calls.{Call, step, checks, effect, value, time}
 use Rattle.desk.proofs.Outcome.{joined}
-use Rattle.desk.proofs.Owned.{accepted-below}
+use Rattle.desk.proofs.Owned.{used-inside, read-inside, used-own, by-use, accepted-used}
 use Rattle.desk.proofs.Desk.consume_until.Statement.{statement}
 use Rattle.desk.proofs.Desk.consume_until.Tie as tie
 
 -- of the place where the code is known: the start, the desk, and the call that 01 describes
 abbrev start : tie.After-check4 → tie.Start
-start c = c .before .before .before .before .before .before .before .before .before
+start c = c .before .before .before .before .before .before .before .before .before .before
 
 abbrev desk-of : tie.After-check4 → Desk
 desk-of c = start c .args .self
@@ -30,21 +31,21 @@ code-of : (c : tie.After-check4) → c .check4 .result ≡ refusal (checks (desk
 unfolding refusal checks owns
 code-of c =
     let owned = c .before .before .before .before .before in
-    simp (
-      c .check4 .ensures,
+    let decided = simp (
       c .before .check3 .ensures,
       c .before .before .check2 .ensures,
       c .before .before .before .check .ensures,
       owned .is-owned .ensures,
       owned .before .in-use .ensures,
-      owned .before .before .connection-at .ensures,
-    )
+      owned .before .before .before .within .ensures,
+    ) at (c .check4 .ensures) in
+    by-use (desk-of c) (start c .args .connection) (λ own. rw own at decided) (λ unused. rw unused (rw unused at decided))
 
--- an accepted call names one of the 32 places
-connection-below : (c : tie.After-check4) → c .check4 .result ≡ 0 → start c .args .connection < 32
+-- an accepted call names a connection in use
+connection-used : (c : tie.After-check4) → c .check4 .result ≡ 0 → inUse (desk-of c .attached) (start c .args .connection) 32 ≡ true
 unfolding checks
-connection-below c zero =
-    accepted-below (desk-of c) (start c .args .thread) (start c .args .connection) _ (code-of c) (refl, (refl, tt)) zero
+connection-used c zero =
+    accepted-used (desk-of c) (start c .args .thread) (start c .args .connection) _ (code-of c) (refl, (refl, tt)) zero
 
 timestamp-below : (c : tie.After-check4) → c .check4 .result ≡ 0 → start c .args .timestamp < never
 unfolding checks
@@ -52,8 +53,17 @@ timestamp-below c zero =
     let pass = passed (checks (desk-of c) (call-of c)) (refl, (refl, (refl, (refl, tt)))) (sym (code-of c) ∙ zero) in
     ltb-true _ _ (pass .1 .1 .1 .0)
 
-connection-at-requires : tie.Need-connection-at-requires
-connection-at-requires c κs = search needs
+within-requires : tie.Need-within-requires
+within-requires c κs = search needs
+
+cast-row : tie.Need-cast-row
+cast-row c = search needs
+
+mul-row : tie.Need-mul-row
+mul-row c = search needs
+
+array-copy-out-row : tie.Need-array-copy-out-row
+array-copy-out-row c = rw (c .within .ensures) (read-inside (c .before .before .args .connection))
 
 in-use-requires : tie.Need-in-use-requires
 in-use-requires c κs = search needs
@@ -87,19 +97,19 @@ raised-requires c κs = search needs
 
 mul-connections : tie.Need-mul-connections
 mul-connections c =
-    let inside = connection-below (c .before .before .before) (c .before .if1 .taken) in
+    let inside = used-inside _ (connection-used (c .before .before .before) (c .before .if1 .taken)) in
     omega arith
 
 array-set-from-connections : tie.Need-array-set-from-connections
-array-set-from-connections c = connection-below (c .before .before .before) (c .before .if1 .taken)
+array-set-from-connections c = used-inside _ (connection-used (c .before .before .before) (c .before .if1 .taken))
 
 returns : tie.Need-returns
 unfolding step effect value time
 returns c =
     let checked = c .before .before in
-    let row-read = checked .before .before .before .before .before .before .before in
+    let read = checked .before .before .before .before .before .before .before .before in
     joined (desk-of checked) _ _ _ _ (code-of checked) (c .before .with-code .ensures)
-    (λ through. (through .0 .taken, rw (through .2, through .1 .ensures, row-read .connection-at .ensures)))
+    (λ through. (through .0 .taken, rw (through .2, through .1 .ensures, read .within .ensures, used-own (desk-of checked) _ (connection-used checked (through .0 .taken)))))
     (λ past. (past .0 .left, rw (past .1)))
     (c .if1 .came)
 
@@ -107,7 +117,10 @@ pub consume-until-spec : {M : Type 1} → statement M
 consume-until-spec =
     tie.close
     (tie.spec
-    connection-at-requires
+    within-requires
+    cast-row
+    mul-row
+    array-copy-out-row
     in-use-requires
     is-owned-requires
     check-requires

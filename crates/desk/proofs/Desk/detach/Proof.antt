@@ -1,19 +1,19 @@
 -- `desk::Desk::detach` meets its contract. Assumes nothing.
 use mathlib.Core.Path.{_≡_}
-use Prim.Native.Nat.{_<_}
+use mathlib.Core.Bool.{true}
 use borrow.Author.Needs.{needs}
 use Rattle.rows.specs.Answers.{refusal}
-use Rattle.tables.specs.Tables.{owns}
+use Rattle.tables.specs.Tables.{inUse, owns}
 use Rattle.desk.specs.declared.Desk.{Desk}
 use Rattle.desk.specs.Calls.{Call, step, checks, effect, value, time}
 use Rattle.desk.proofs.Outcome.{joined}
-use Rattle.desk.proofs.Owned.{accepted-below}
+use Rattle.desk.proofs.Owned.{used-inside, read-inside, by-use, accepted-used}
 use Rattle.desk.proofs.Desk.detach.Statement.{statement}
 use Rattle.desk.proofs.Desk.detach.Tie as tie
 
 -- of the place where the code is known: the start, the desk, and the call that 01 describes
 abbrev start : tie.After-check2 → tie.Start
-start c = c .before .before .before .before .before .before
+start c = c .before .before .before .before .before .before .before
 
 abbrev desk-of : tie.After-check2 → Desk
 desk-of c = start c .args .self
@@ -26,22 +26,31 @@ code-of : (c : tie.After-check2) → c .check2 .result ≡ refusal (checks (desk
 unfolding refusal checks owns
 code-of c =
     let owned = c .before .before in
-    simp (
-      c .check2 .ensures,
+    let decided = simp (
       c .before .check .ensures,
       owned .is-owned .ensures,
       owned .before .in-use .ensures,
-      owned .before .before .connection-at .ensures,
-    )
+      owned .before .before .before .within .ensures,
+    ) at (c .check2 .ensures) in
+    by-use (desk-of c) (start c .args .connection) (λ own. rw own at decided) (λ unused. rw unused (rw unused at decided))
 
--- an accepted call names one of the 32 places
-connection-below : (c : tie.After-check2) → c .check2 .result ≡ 0 → start c .args .connection < 32
+-- an accepted call names a connection in use
+connection-used : (c : tie.After-check2) → c .check2 .result ≡ 0 → inUse (desk-of c .attached) (start c .args .connection) 32 ≡ true
 unfolding checks
-connection-below c zero =
-    accepted-below (desk-of c) (start c .args .thread) (start c .args .connection) _ (code-of c) tt zero
+connection-used c zero =
+    accepted-used (desk-of c) (start c .args .thread) (start c .args .connection) _ (code-of c) tt zero
 
-connection-at-requires : tie.Need-connection-at-requires
-connection-at-requires c κs = search needs
+within-requires : tie.Need-within-requires
+within-requires c κs = search needs
+
+cast-row : tie.Need-cast-row
+cast-row c = search needs
+
+mul-row : tie.Need-mul-row
+mul-row c = search needs
+
+array-copy-out-row : tie.Need-array-copy-out-row
+array-copy-out-row c = rw (c .within .ensures) (read-inside (c .before .before .args .connection))
 
 in-use-requires : tie.Need-in-use-requires
 in-use-requires c κs = search needs
@@ -62,7 +71,7 @@ mul-connections : tie.Need-mul-connections
 mul-connections c = search needs
 
 array-set-from-connections : tie.Need-array-set-from-connections
-array-set-from-connections c = connection-below (c .before .before) (c .if1 .taken)
+array-set-from-connections c = used-inside _ (connection-used (c .before .before) (c .if1 .taken))
 
 without-requires : tie.Need-without-requires
 without-requires c κs = search needs
@@ -80,7 +89,10 @@ pub detach-spec : {M : Type 1} → statement M
 detach-spec =
     tie.close
     (tie.spec
-    connection-at-requires
+    within-requires
+    cast-row
+    mul-row
+    array-copy-out-row
     in-use-requires
     is-owned-requires
     check-requires

@@ -1,21 +1,22 @@
 -- `desk::Desk::put` meets its contract. Assumes nothing.
 use mathlib.Core.Path.{_≡_, refl, sym, _∙_}
+use mathlib.Core.Bool.{true}
 use Prim.Native.Nat.{_<_}
 use borrow.Author.Needs.{needs}
 use borrow.Author.Tests.{ltb-true}
 use Rattle.rows.specs.Answers.{refusal}
 use Rattle.rows.proofs.Laws.{passed}
-use Rattle.tables.specs.Tables.{owns}
+use Rattle.tables.specs.Tables.{inUse, owns}
 use Rattle.desk.specs.declared.Desk.{Desk}
 use Rattle.desk.specs.Calls.{Call, step, checks, effect, value, time, stored}
 use Rattle.desk.proofs.Outcome.{joined}
-use Rattle.desk.proofs.Owned.{fewer-free}
+use Rattle.desk.proofs.Owned.{read-inside, used-own, by-use, accepted-used, fewer-free}
 use Rattle.desk.proofs.Desk.put.Statement.{statement}
 use Rattle.desk.proofs.Desk.put.Tie as tie
 
 -- of the place where the code is known: the start, the desk, and the call that 01 describes
 abbrev start : tie.After-check7 → tie.Start
-start c = c .before .before .before .before .before .before .before .before .before .before .before .before .before .before .before .before .before
+start c = c .before .before .before .before .before .before .before .before .before .before .before .before .before .before .before .before .before .before
 
 abbrev desk-of : tie.After-check7 → Desk
 desk-of c = start c .args .self
@@ -28,9 +29,8 @@ code-of : (c : tie.After-check7) → c .check7 .result ≡ refusal (checks (desk
 unfolding refusal checks owns
 code-of c =
     let owned = c .before .before .before .before .before .before .before .before in
-    let row-read = owned .before .before .before .before .before in
-    simp (
-      c .check7 .ensures,
+    let read = owned .before .before .before .before .before .before in
+    let decided = simp (
       c .before .check6 .ensures,
       c .before .before .check5 .ensures,
       c .before .before .before .check4 .ensures,
@@ -41,9 +41,16 @@ code-of c =
       owned .before .in-use .ensures,
       owned .before .before .count .ensures,
       owned .before .before .before .before .find .ensures,
-      row-read .connection-at .ensures,
-      row-read .before .visible .ensures,
-    )
+      read .within .ensures,
+      read .before .visible .ensures,
+    ) at (c .check7 .ensures) in
+    by-use (desk-of c) (start c .args .connection) (λ own. rw own at decided) (λ unused. rw unused (rw unused at decided))
+
+-- an accepted call names a connection in use
+connection-used : (c : tie.After-check7) → c .check7 .result ≡ 0 → inUse (desk-of c .attached) (start c .args .connection) 32 ≡ true
+unfolding checks
+connection-used c zero =
+    accepted-used (desk-of c) (start c .args .thread) (start c .args .connection) _ (code-of c) (refl, (refl, (refl, (refl, (refl, tt))))) zero
 
 -- an accepted call has a free place: 8 leaves a full desk out
 place-below : (c : tie.After-check7) → c .check7 .result ≡ 0 → c .before .before .before .before .before .before .before .before .before .before .before .lowest-free .result < 64
@@ -55,8 +62,17 @@ place-below c zero =
 visible-requires : tie.Need-visible-requires
 visible-requires c κs = search needs
 
-connection-at-requires : tie.Need-connection-at-requires
-connection-at-requires c κs = search needs
+within-requires : tie.Need-within-requires
+within-requires c κs = search needs
+
+cast-row : tie.Need-cast-row
+cast-row c = search needs
+
+mul-row : tie.Need-mul-row
+mul-row c = search needs
+
+array-copy-out-row : tie.Need-array-copy-out-row
+array-copy-out-row c = rw (c .within .ensures) (read-inside (c .before .before .before .before .args .connection))
 
 find-requires : tie.Need-find-requires
 find-requires c κs = search needs
@@ -114,9 +130,9 @@ unfolding step effect value time stored
 returns c =
     let checked = c .before .before in
     let placed = checked .before .before .before .before .before .before .before .before .before .before .before in
-    let row-read = placed .before .before in
+    let read = placed .before .before .before in
     joined (desk-of checked) _ _ _ _ (code-of checked) (c .before .with-code .ensures)
-    (λ through. (through .0 .taken, rw (through .2, through .3, through .1 .ensures, placed .lowest-free .ensures, row-read .connection-at .ensures)))
+    (λ through. (through .0 .taken, rw (through .2, through .3, through .1 .ensures, placed .lowest-free .ensures, read .within .ensures, used-own (desk-of checked) _ (connection-used checked (through .0 .taken)))))
     (λ past. (past .0 .left, rw (past .1, past .2)))
     (c .if1 .came)
 
@@ -125,7 +141,10 @@ put-spec =
     tie.close
     (tie.spec
     visible-requires
-    connection-at-requires
+    within-requires
+    cast-row
+    mul-row
+    array-copy-out-row
     find-requires
     lowest-free-requires
     count-requires

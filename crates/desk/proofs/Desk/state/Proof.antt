@@ -1,14 +1,23 @@
 -- `desk::Desk::state` meets its contract. Assumes nothing.
 use Rattle.tables.specs.Seen.{state}
-use Rattle.rows.specs.Answers.{refusal}
+use Rattle.rows.specs.Answers.{refusal, answered}
 use Rattle.desk.specs.Questions.{reply, questionChecks, replyValue, replyTime}
-use mathlib.Core.Path.{_∙_}
 use borrow.Author.Needs.{needs}
+use Rattle.desk.proofs.Owned.{read-inside, by-use}
 use Rattle.desk.proofs.Desk.state.Statement.{statement}
 use Rattle.desk.proofs.Desk.state.Tie as tie
 
-connection-at-requires : tie.Need-connection-at-requires
-connection-at-requires c κs = search needs
+within-requires : tie.Need-within-requires
+within-requires c κs = search needs
+
+cast-row : tie.Need-cast-row
+cast-row c = search needs
+
+mul-row : tie.Need-mul-row
+mul-row c = search needs
+
+array-copy-out-row : tie.Need-array-copy-out-row
+array-copy-out-row c = rw (c .within .ensures) (read-inside (c .before .before .before .args .connection))
 
 find-requires : tie.Need-find-requires
 find-requires c κs = search needs
@@ -35,7 +44,7 @@ with-code-requires : tie.Need-with-code-requires
 with-code-requires c κs = search needs
 
 returns : tie.Need-returns
-unfolding reply questionChecks replyValue replyTime refusal state
+unfolding reply questionChecks replyValue replyTime refusal answered state
 returns c =
     let number = c .before in
     let state-of = number .before in
@@ -43,14 +52,28 @@ returns c =
     let timestamp = direction .before .before in
     let in-use = timestamp .before .before in
     let find = in-use .before in
-    c .with-code .ensures
-    ∙ simp (number .number .ensures, state-of .state-of .ensures, direction .check3 .ensures, direction .before .check2 .ensures, timestamp .check .ensures, in-use .in-use .ensures, find .find .ensures, find .before .connection-at .ensures)
+    let read = find .before .before in
+    let given = read .before .before .before .args in
+    let replied = simp (
+      number .number .ensures,
+      state-of .state-of .ensures,
+      direction .check3 .ensures,
+      direction .before .check2 .ensures,
+      timestamp .check .ensures,
+      in-use .in-use .ensures,
+      find .find .ensures,
+      read .within .ensures,
+    ) at (c .with-code .ensures) in
+    by-use (given .self) (given .connection) (λ own. rw own at replied) (λ unused. rw unused (rw unused at replied))
 
 pub state-spec : {M : Type 1} → statement M
 state-spec =
     tie.close
     (tie.spec
-    connection-at-requires
+    within-requires
+    cast-row
+    mul-row
+    array-copy-out-row
     find-requires
     in-use-requires
     check-requires
