@@ -19,8 +19,9 @@ pub fn find(items: [Item; 64], present: u64, channel: u32, timestamp: u32) -> u3
     let mut p = words::lowest(rest);
     while p < 64 {
         let item = items[p as usize];
-        if item.channel == channel {
-            if item.timestamp == timestamp {
+        // The timestamp first: few items share it, so that the machine foresees the way.
+        if item.timestamp == timestamp {
+            if item.channel == channel {
                 return p;
             }
         }

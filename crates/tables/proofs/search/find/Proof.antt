@@ -1,7 +1,7 @@
 -- `tables::search::find` meets its contract. Assumes nothing.
 use mathlib.Core.Path.{_≡_, refl}
 use mathlib.Core.Logic.{⊎-elim}
-use mathlib.Core.Bool.{Bool, _&&_}
+use mathlib.Core.Bool.{Bool, _&&_, and-false}
 use mathlib.Core.List.{List}
 use Prim.Native.Nat.{ℕ}
 use borrow.Author.Needs.{needs}
@@ -50,15 +50,15 @@ array-copy-out-item c = search needs
 returns : tie.Need-returns Inv-loop μ-loop
 unfolding is-it
 returns c =
-    let same-channel = c .before .before in
-    let turn = same-channel .before .before .before in
+    let same-time = c .before .before in
+    let turn = same-time .before .before .before in
     let at = turn .before .loop in
     search-here
     _
     (at .rest)
     (turn .loop-test .taken)
     (at .inv .0)
-    (and-both (eq-eqb _ _ (same-channel .if1 .taken)) (eq-eqb _ _ (c .if2 .taken)))
+    (and-both (eq-eqb _ _ (c .if2 .taken)) (eq-eqb _ _ (same-time .if1 .taken)))
     (at .inv .1)
 
 without-requires : tie.Need-without-requires Inv-loop μ-loop
@@ -82,8 +82,8 @@ loop-again c =
           (is-it (args .t1) (args .channel) (args .timestamp))
           (at .loop .rest)
           (⊎-elim
-          (λ other-time. simp (eq-eqb _ _ (other-time .0 .taken), ne-eqb _ _ (other-time .2 .left)))
-          (λ other-channel. simp (ne-eqb _ _ (other-channel .left)))
+          (λ other-channel. simp (ne-eqb _ _ (other-channel .2 .left)))
+          (λ other-time. simp (ne-eqb _ _ (other-time .left), and-false))
           (c .before .before .if1 .came))
           (c .before .without .ensures)
           (at .loop .inv .1),
