@@ -46,7 +46,7 @@ impl Desk {
         let row = connections[within(connection, Desk::CONNECTIONS) as usize];
         let same = find(items, self.present, row.channel, timestamp);
         let place = words::lowest_free(self.present);
-        let room = words::count(self.present);
+        let number = words::count(self.present);
         let code = check(
             in_use(self.living, thread, Desk::THREADS),
             1,
@@ -62,7 +62,7 @@ impl Desk {
                         check(
                             visible <= timestamp,
                             6,
-                            check(Desk::ITEMS <= same, 7, check(room < Desk::ITEMS, 8, 0)),
+                            check(Desk::ITEMS <= same, 7, check(number < Desk::ITEMS, 8, 0)),
                         ),
                     ),
                 ),
