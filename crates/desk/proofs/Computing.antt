@@ -14,7 +14,7 @@ use Rattle.desk.specs.Desk.{fresh}
 use Rattle.desk.specs.Times.{visibleTime, weakBound, strongBound}
 use Rattle.desk.specs.Calls.{checks, adopted, attachedAs, ended, stored, swept, effect, value, time, outcome, step, sliceAfter}
 use Rattle.desk.specs.Questions.{questionChecks, replyValue, replyTime, reply}
-use Rattle.desk.specs.Runs.{after}
+use Rattle.desk.specs.Calls.{after}
 
 -- named on an `unfolding` line, it opens them all
 unfoldable pub computing : Unit {0}

@@ -3,4 +3,3 @@ pub mod Outcome
 pub mod Computing
 pub mod Cases
 pub mod Owned
-pub mod Runs

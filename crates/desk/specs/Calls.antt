@@ -8,15 +8,19 @@ use lib.ListN.{length, set}
 use Rattle.words.specs.Words.{with, without, less, lowestFree, count}
 use Rattle.rows.specs.declared.Connection.{Connection}
 use Rattle.rows.specs.declared.Item.{Item}
+use Rattle.calls.specs.declared.Bound.{Bound}
+use Rattle.calls.specs.declared.Bound.the-variants.{Weak, Strong}
+use Rattle.calls.specs.declared.Deed.the-variants.{Channel, NewThread, AttachInput, AttachOutput, Detach, End, Set, Put, Get, Consume, ConsumeUntil}
+use Rattle.calls.specs.declared.Which.{Which}
+use Rattle.calls.specs.declared.Which.the-variants.{Earliest, Latest, Named}
+use Rattle.calls.specs.Calls.{Call, by, sweep}
+use Rattle.calls.specs.States.{isOpen}
 use Rattle.rows.specs.declared.Found.{Found}
 use Rattle.rows.specs.declared.Found.the-variants.{At, Nothing}
-use Rattle.rows.specs.declared.Which.{Which}
-use Rattle.rows.specs.declared.Which.the-variants.{Earliest, Latest, Named}
 use Rattle.rows.specs.Answers.{Check, needs, refusal, answered}
 use Rattle.rows.specs.Choices.{ticketOf}
 use Rattle.rows.specs.Facts.{got, consumedByName, raised}
 use Rattle.rows.specs.Numbers.{never, noThread, noConnection, input, output}
-use Rattle.rows.specs.States.{isOpen}
 use Rattle.tables.specs.Tables.{connectionAt, isLiving, owns, threadPlaces, channelPlaces, connectionPlaces, itemPlaces}
 use Rattle.tables.specs.Seen.{placeOf, state}
 use Rattle.tables.specs.Search.{sought}
@@ -25,22 +29,6 @@ use Rattle.desk.specs.declared.Desk.{Desk}
 use Rattle.desk.specs.declared.Next.{Next}
 use Rattle.desk.specs.Desk.{threadsOf, connectionsOf, itemsOf, isChannel, withThreads, withChannels, withConnections, withItems}
 use Rattle.desk.specs.Times.{visibleTime, weakBound, strongBound}
-
--- the rows of 01's first table; a sweep is lent a slice
-pub data Call : Type 0 where
-  new-channel : (thread : ℕ) → Call
-  new-thread : (thread time : ℕ) → Call
-  attach-input : (thread channel : ℕ) → Call
-  attach-output : (thread channel : ℕ) → Call
-  detach : (thread connection : ℕ) → Call
-  end : (thread : ℕ) → Call
-  set-time : (thread time : ℕ) → Call
-  put : (thread connection timestamp ticket : ℕ) → Call
-  get : (thread connection : ℕ) → Which → Call
-  consume : (thread connection timestamp : ℕ) → Call
-  consume-until : (thread connection timestamp : ℕ) → Call
-  weak-sweep : (slice : List ℕ) → Call
-  strong-sweep : (slice : List ℕ) → Call
 
 -- ---- "A new thread, channel, connection or item takes the lowest free place."
 
@@ -124,23 +112,28 @@ which-given which = needs (isGiven which) 5
 abbrev pub item-open : Desk → ℕ → ℕ → Check
 item-open d connection timestamp = needs (isOpen (state (itemsOf d) (connectionAt (connectionsOf d) connection) timestamp)) 11
 
+-- "A sweep takes its bound."
+abbrev pub boundOf : Desk → Bound → ℕ
+boundOf d Weak = weakBound d
+boundOf d Strong = strongBound d
+
 -- 12: "slice shorter than the items to hand back"
 abbrev pub slice-long : Desk → ℕ → List ℕ → Check
 slice-long d bound slice = needs (leb (count (leaving (itemsOf d) bound)) (length slice)) 12
 
 -- "Refusals are tested in the order written here."
 unfoldable pub checks : Desk → Call → List Check
-checks d (new-channel thread) = thread-lives d thread ∷ place-free (freeChannel d) channelPlaces ∷ []
-checks d (new-thread thread time) =
+checks d (by thread Channel) = thread-lives d thread ∷ place-free (freeChannel d) channelPlaces ∷ []
+checks d (by thread (NewThread time)) =
     thread-lives d thread ∷ time-visible d thread time ∷ place-free (freeThread d) threadPlaces ∷ []
-checks d (attach-input thread channel) =
+checks d (by thread (AttachInput channel)) =
     thread-lives d thread ∷ channel-exists d channel ∷ place-free (freeConnection d) connectionPlaces ∷ []
-checks d (attach-output thread channel) =
+checks d (by thread (AttachOutput channel)) =
     thread-lives d thread ∷ channel-exists d channel ∷ place-free (freeConnection d) connectionPlaces ∷ []
-checks d (detach thread connection) = thread-lives d thread ∷ connection-owned d thread connection ∷ []
-checks d (end thread) = thread-lives d thread ∷ []
-checks d (set-time thread time) = thread-lives d thread ∷ time-visible d thread time ∷ []
-checks d (put thread connection timestamp ticket) =
+checks d (by thread (Detach connection)) = thread-lives d thread ∷ connection-owned d thread connection ∷ []
+checks d (by thread End) = thread-lives d thread ∷ []
+checks d (by thread (Set time)) = thread-lives d thread ∷ time-visible d thread time ∷ []
+checks d (by thread (Put connection timestamp ticket)) =
     thread-lives d thread
     ∷ connection-owned d thread connection
     ∷ connection-goes d connection output
@@ -149,28 +142,27 @@ checks d (put thread connection timestamp ticket) =
     ∷ timestamp-absent d connection timestamp
     ∷ item-fits d
     ∷ []
-checks d (get thread connection which) =
+checks d (by thread (Get connection which)) =
     thread-lives d thread
     ∷ connection-owned d thread connection
     ∷ connection-goes d connection input
     ∷ which-given which
     ∷ item-found d connection which
     ∷ []
-checks d (consume thread connection timestamp) =
+checks d (by thread (Consume connection timestamp)) =
     thread-lives d thread
     ∷ connection-owned d thread connection
     ∷ connection-goes d connection input
     ∷ timestamp-given timestamp
     ∷ item-open d connection timestamp
     ∷ []
-checks d (consume-until thread connection timestamp) =
+checks d (by thread (ConsumeUntil connection timestamp)) =
     thread-lives d thread
     ∷ connection-owned d thread connection
     ∷ connection-goes d connection input
     ∷ timestamp-given timestamp
     ∷ []
-checks d (weak-sweep slice) = slice-long d (weakBound d) slice ∷ []
-checks d (strong-sweep slice) = slice-long d (strongBound d) slice ∷ []
+checks d (sweep bound slice) = slice-long d (boundOf d bound) slice ∷ []
 
 -- ---- the effects
 
@@ -206,7 +198,7 @@ abbrev pub opened : Desk → ℕ → Found → Desk
 opened d connection (At place item) = withConnection d connection (got (connectionAt (connectionsOf d) connection) place)
 opened d connection Nothing = d
 
--- "A sweep takes its bound. Every present item with a smaller timestamp leaves the desk."
+-- "Every present item with a smaller timestamp leaves the desk."
 unfoldable pub swept : Desk → ℕ → Desk
 swept d bound =
     withItems
@@ -215,25 +207,24 @@ swept d bound =
     (sweptItems (d .items) (leaving (itemsOf d) bound))
 
 unfoldable pub effect : Desk → Call → Desk
-effect d (new-channel thread) = withChannels d (with (d .channels) (freeChannel d))
-effect d (new-thread thread time) = adopted d time
-effect d (attach-input thread channel) = attachedAs d (connected input thread channel (visibleTime d thread))
-effect d (attach-output thread channel) = attachedAs d (connected output thread channel 0)
-effect d (detach thread connection) =
+effect d (by thread Channel) = withChannels d (with (d .channels) (freeChannel d))
+effect d (by thread (NewThread time)) = adopted d time
+effect d (by thread (AttachInput channel)) = attachedAs d (connected input thread channel (visibleTime d thread))
+effect d (by thread (AttachOutput channel)) = attachedAs d (connected output thread channel 0)
+effect d (by thread (Detach connection)) =
     withConnections d (without (d .attached) connection) (set (d .connections) connection noConnection)
-effect d (end thread) = ended d thread
-effect d (set-time thread time) = withThreads d (d .living) (set (d .threads) thread (record { time = time }))
-effect d (put thread connection timestamp ticket) =
+effect d (by thread End) = ended d thread
+effect d (by thread (Set time)) = withThreads d (d .living) (set (d .threads) thread (record { time = time }))
+effect d (by thread (Put connection timestamp ticket)) =
     stored d (record { channel = connectionAt (connectionsOf d) connection .channel; timestamp = timestamp; ticket = ticket })
-effect d (get thread connection which) = opened d connection (soughtBy d connection which)
-effect d (consume thread connection timestamp) =
+effect d (by thread (Get connection which)) = opened d connection (soughtBy d connection which)
+effect d (by thread (Consume connection timestamp)) =
     withConnection d connection
     (consumedByName (connectionAt (connectionsOf d) connection)
     (placeOf (itemsOf d) (connectionAt (connectionsOf d) connection .channel) timestamp))
-effect d (consume-until thread connection timestamp) =
+effect d (by thread (ConsumeUntil connection timestamp)) =
     withConnection d connection (raised (connectionAt (connectionsOf d) connection) (timestamp + 1))
-effect d (weak-sweep slice) = swept d (weakBound d)
-effect d (strong-sweep slice) = swept d (strongBound d)
+effect d (sweep bound slice) = swept d (boundOf d bound)
 
 -- ---- the answers
 
@@ -242,34 +233,32 @@ timestampOf (At place item) = item .timestamp
 timestampOf Nothing = 0
 
 unfoldable pub value : Desk → Call → ℕ
-value d (new-channel thread) = freeChannel d
-value d (new-thread thread time) = freeThread d
-value d (attach-input thread channel) = freeConnection d
-value d (attach-output thread channel) = freeConnection d
-value d (detach thread connection) = 0
-value d (end thread) = 0
-value d (set-time thread time) = 0
-value d (put thread connection timestamp ticket) = 0
-value d (get thread connection which) = ticketOf (soughtBy d connection which)
-value d (consume thread connection timestamp) = 0
-value d (consume-until thread connection timestamp) = 0
-value d (weak-sweep slice) = count (leaving (itemsOf d) (weakBound d))
-value d (strong-sweep slice) = count (leaving (itemsOf d) (strongBound d))
+value d (by thread Channel) = freeChannel d
+value d (by thread (NewThread time)) = freeThread d
+value d (by thread (AttachInput channel)) = freeConnection d
+value d (by thread (AttachOutput channel)) = freeConnection d
+value d (by thread (Detach connection)) = 0
+value d (by thread End) = 0
+value d (by thread (Set time)) = 0
+value d (by thread (Put connection timestamp ticket)) = 0
+value d (by thread (Get connection which)) = ticketOf (soughtBy d connection which)
+value d (by thread (Consume connection timestamp)) = 0
+value d (by thread (ConsumeUntil connection timestamp)) = 0
+value d (sweep bound slice) = count (leaving (itemsOf d) (boundOf d bound))
 
 unfoldable pub time : Desk → Call → ℕ
-time d (new-channel thread) = 0
-time d (new-thread thread when) = 0
-time d (attach-input thread channel) = visibleTime d thread
-time d (attach-output thread channel) = 0
-time d (detach thread connection) = 0
-time d (end thread) = 0
-time d (set-time thread when) = 0
-time d (put thread connection timestamp ticket) = 0
-time d (get thread connection which) = timestampOf (soughtBy d connection which)
-time d (consume thread connection timestamp) = 0
-time d (consume-until thread connection timestamp) = 0
-time d (weak-sweep slice) = weakBound d
-time d (strong-sweep slice) = strongBound d
+time d (by thread Channel) = 0
+time d (by thread (NewThread when)) = 0
+time d (by thread (AttachInput channel)) = visibleTime d thread
+time d (by thread (AttachOutput channel)) = 0
+time d (by thread (Detach connection)) = 0
+time d (by thread End) = 0
+time d (by thread (Set when)) = 0
+time d (by thread (Put connection timestamp ticket)) = 0
+time d (by thread (Get connection which)) = timestampOf (soughtBy d connection which)
+time d (by thread (Consume connection timestamp)) = 0
+time d (by thread (ConsumeUntil connection timestamp)) = 0
+time d (sweep bound slice) = boundOf d bound
 
 -- an answer and the next desk, from the checks, the value, the time and the desk that is next where all checks hold.
 -- A refusal "leaves the desk and the slice as they were".
@@ -282,16 +271,10 @@ step d call = outcome d (checks d call) (value d call) (time d call) (effect d c
 
 -- the slice that a sweep was lent, afterwards; the other calls are lent none
 unfoldable pub sliceAfter : Desk → Call → List ℕ
-sliceAfter d (new-channel thread) = []
-sliceAfter d (new-thread thread when) = []
-sliceAfter d (attach-input thread channel) = []
-sliceAfter d (attach-output thread channel) = []
-sliceAfter d (detach thread connection) = []
-sliceAfter d (end thread) = []
-sliceAfter d (set-time thread when) = []
-sliceAfter d (put thread connection timestamp ticket) = []
-sliceAfter d (get thread connection which) = []
-sliceAfter d (consume thread connection timestamp) = []
-sliceAfter d (consume-until thread connection timestamp) = []
-sliceAfter d (weak-sweep slice) = handedBack (d .items) (leaving (itemsOf d) (weakBound d)) slice
-sliceAfter d (strong-sweep slice) = handedBack (d .items) (leaving (itemsOf d) (strongBound d)) slice
+sliceAfter d (by thread deed) = []
+sliceAfter d (sweep bound slice) = handedBack (d .items) (leaving (itemsOf d) (boundOf d bound)) slice
+
+-- the desk after some calls
+unfoldable pub after : Desk → List Call → Desk
+after d [] = d
+after d (call ∷ calls) = after (step d call .desk) calls

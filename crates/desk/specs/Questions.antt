@@ -1,24 +1,17 @@
 -- Document 01: "Questions without effect, refused by the same codes but never counted as accepted calls". Assumes nothing.
 use mathlib.Core.List.{List, [], _∷_}
 use Prim.Native.Nat.{ℕ}
+use Rattle.calls.specs.Questions.{Question, visible-time, weak-bound, strong-bound, state-of, items-present}
+use Rattle.calls.specs.States.{stateNumber}
 use Rattle.rows.specs.declared.Answer.{Answer}
 use Rattle.rows.specs.Answers.{Check, needs, refusal, answered}
 use Rattle.rows.specs.Numbers.{input}
-use Rattle.rows.specs.States.{stateNumber}
 use Rattle.tables.specs.Tables.{connectionAt, isConnection}
 use Rattle.tables.specs.Seen.{state}
 use Rattle.desk.specs.declared.Desk.{Desk}
 use Rattle.desk.specs.Desk.{connectionsOf, itemsOf}
 use Rattle.desk.specs.Times.{visibleTime, weakBound, strongBound}
 use Rattle.desk.specs.Calls.{thread-lives, connection-goes, timestamp-given, itemsPresent}
-
--- "a thread's visible time (1); both bounds; a timestamp's state on an input connection (..); the number of items present"
-pub data Question : Type 0 where
-  visible-time : (thread : ℕ) → Question
-  weak-bound : Question
-  strong-bound : Question
-  state-of : (connection timestamp : ℕ) → Question
-  items-present : Question
 
 -- "3 where there is no such connection, 4, 5; no thread is named"
 abbrev pub connection-exists : Desk → ℕ → Check

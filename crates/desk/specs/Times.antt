@@ -17,7 +17,7 @@ weakBound d = min (leastTime (threadsOf d)) (leastKeep (connectionsOf d))
 
 -- "Strong bound (000, section 5): the smallest of all virtual times and of all timestamps of present items that are UNSEEN or OPEN on some
 -- input connection." It is minO of theorem 5.0, read so that it is sound: the theorem as printed takes minK where minV is at most minK,
--- and would let the bound fall at the first attach (cases P9 and P10).
+-- and would let the bound fall at the first attach, from never, where there is no input connection yet, to the new connection's mark.
 -- "With no living thread both bounds are never": a thread's end frees its connections, so nothing is left to take a smallest of.
 unfoldable pub strongBound : Desk → ℕ
 strongBound d = min (leastTime (threadsOf d)) (leastAwaited (connectionsOf d) (itemsOf d))

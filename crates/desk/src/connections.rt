@@ -1,6 +1,7 @@
 // The calls on connections: attach input, attach output, detach.
 ghost use mathlib.Core.Path.{_≡_};
-ghost use Rattle.desk.specs.Calls.{Call, attachedAs, checks, connected, freeConnection, outcome, step};
+ghost use Rattle.calls.specs.Calls.{attach-input, attach-output, detach};
+ghost use Rattle.desk.specs.Calls.{attachedAs, checks, connected, freeConnection, outcome, step};
 use crate::Desk;
 use crate::Next;
 use crate::is_owned;
@@ -13,7 +14,7 @@ use tables::places::within;
 impl Desk {
     // A new connection in the lowest free place, with this direction and mark.
     fn attach(mut self, thread: u32, channel: u32, direction: u32, mark: u32) -> Next
-        ensures { λ r. ⌜ r ≡ outcome self (checks self (Call.attach-output thread channel)) (freeConnection self) mark (attachedAs self (connected direction thread channel mark)) ⌝ }
+        ensures { λ r. ⌜ r ≡ outcome self (checks self (attach-output thread channel)) (freeConnection self) mark (attachedAs self (connected direction thread channel mark)) ⌝ }
     {
         let mut connections = self.connections;
         let place = words::lowest_free(self.attached);
@@ -43,20 +44,20 @@ impl Desk {
     }
 
     pub fn attach_input(self, thread: u32, channel: u32) -> Next
-        ensures { λ r. ⌜ r ≡ step self (Call.attach-input thread channel) ⌝ }
+        ensures { λ r. ⌜ r ≡ step self (attach-input thread channel) ⌝ }
     {
         let visible = self.visible(thread);
         self.attach(thread, channel, Connection::INPUT, visible)
     }
 
     pub fn attach_output(self, thread: u32, channel: u32) -> Next
-        ensures { λ r. ⌜ r ≡ step self (Call.attach-output thread channel) ⌝ }
+        ensures { λ r. ⌜ r ≡ step self (attach-output thread channel) ⌝ }
     {
         self.attach(thread, channel, Connection::OUTPUT, 0)
     }
 
     pub fn detach(mut self, thread: u32, connection: u32) -> Next
-        ensures { λ r. ⌜ r ≡ step self (Call.detach thread connection) ⌝ }
+        ensures { λ r. ⌜ r ≡ step self (detach thread connection) ⌝ }
     {
         let mut connections = self.connections;
         let row = connections[within(connection, Desk::CONNECTIONS) as usize];

@@ -1,14 +1,15 @@
 // The calls on items: put, get, consume, consume until.
 ghost use mathlib.Core.Path.{_≡_};
-ghost use Rattle.desk.specs.Calls.{Call, step, isFound, isGiven};
+ghost use Rattle.calls.specs.Calls.{put, get, consume, consume-until};
+ghost use Rattle.desk.specs.Calls.{step, isFound, isGiven};
 use crate::Desk;
 use crate::Next;
 use crate::is_owned;
+use calls::Which;
 use rows::Answer;
 use rows::Connection;
 use rows::Found;
 use rows::Item;
-use rows::Which;
 use rows::answers::check;
 use tables::places::in_use;
 use tables::places::within;
@@ -38,7 +39,7 @@ fn is_given(which: Which) -> bool
 
 impl Desk {
     pub fn put(mut self, thread: u32, connection: u32, timestamp: u32, ticket: u64) -> Next
-        ensures { λ r. ⌜ r ≡ step self (Call.put thread connection timestamp ticket) ⌝ }
+        ensures { λ r. ⌜ r ≡ step self (put thread connection timestamp ticket) ⌝ }
     {
         let connections = self.connections;
         let mut items = self.items;
@@ -82,7 +83,7 @@ impl Desk {
     }
 
     pub fn get(mut self, thread: u32, connection: u32, which: Which) -> Next
-        ensures { λ r. ⌜ r ≡ step self (Call.get thread connection which) ⌝ }
+        ensures { λ r. ⌜ r ≡ step self (get thread connection which) ⌝ }
     {
         let mut connections = self.connections;
         let items = self.items;
@@ -116,7 +117,7 @@ impl Desk {
     }
 
     pub fn consume(mut self, thread: u32, connection: u32, timestamp: u32) -> Next
-        ensures { λ r. ⌜ r ≡ step self (Call.consume thread connection timestamp) ⌝ }
+        ensures { λ r. ⌜ r ≡ step self (consume thread connection timestamp) ⌝ }
     {
         let mut connections = self.connections;
         let items = self.items;
@@ -148,7 +149,7 @@ impl Desk {
     }
 
     pub fn consume_until(mut self, thread: u32, connection: u32, timestamp: u32) -> Next
-        ensures { λ r. ⌜ r ≡ step self (Call.consume-until thread connection timestamp) ⌝ }
+        ensures { λ r. ⌜ r ≡ step self (consume-until thread connection timestamp) ⌝ }
     {
         let mut connections = self.connections;
         let row = connections[within(connection, Desk::CONNECTIONS) as usize];

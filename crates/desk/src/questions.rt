@@ -1,6 +1,7 @@
 // Questions without effect.
 ghost use mathlib.Core.Path.{_≡_};
-ghost use Rattle.desk.specs.Questions.{Question, reply};
+ghost use Rattle.calls.specs.Questions.{visible-time, weak-bound, strong-bound, state-of, items-present};
+ghost use Rattle.desk.specs.Questions.{reply};
 use crate::Desk;
 use rows::Answer;
 use rows::Connection;
@@ -11,7 +12,7 @@ use tables::search::find;
 
 impl Desk {
     pub fn visible_time(self, thread: u32) -> Answer
-        ensures { λ r. ⌜ r ≡ reply self (Question.visible-time thread) ⌝ }
+        ensures { λ r. ⌜ r ≡ reply self (visible-time thread) ⌝ }
     {
         let visible = self.visible(thread);
         let code = check(in_use(self.living, thread, Desk::THREADS), 1, 0);
@@ -19,19 +20,19 @@ impl Desk {
     }
 
     pub fn weak_bound(self) -> Answer
-        ensures { λ r. ⌜ r ≡ reply self Question.weak-bound ⌝ }
+        ensures { λ r. ⌜ r ≡ reply self weak-bound ⌝ }
     {
         Answer::with_code(0, 0, self.weak())
     }
 
     pub fn strong_bound(self) -> Answer
-        ensures { λ r. ⌜ r ≡ reply self Question.strong-bound ⌝ }
+        ensures { λ r. ⌜ r ≡ reply self strong-bound ⌝ }
     {
         Answer::with_code(0, 0, self.strong())
     }
 
     pub fn state(self, connection: u32, timestamp: u32) -> Answer
-        ensures { λ r. ⌜ r ≡ reply self (Question.state-of connection timestamp) ⌝ }
+        ensures { λ r. ⌜ r ≡ reply self (state-of connection timestamp) ⌝ }
     {
         let connections = self.connections;
         let items = self.items;
@@ -50,7 +51,7 @@ impl Desk {
     }
 
     pub fn items_present(self) -> Answer
-        ensures { λ r. ⌜ r ≡ reply self Question.items-present ⌝ }
+        ensures { λ r. ⌜ r ≡ reply self items-present ⌝ }
     {
         Answer::with_code(0, words::count(self.present) as u64, 0)
     }

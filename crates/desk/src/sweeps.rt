@@ -3,7 +3,8 @@ ghost use mathlib.Core.Path.{_≡_};
 ghost use mathlib.Core.List.{[], _∷_};
 ghost use Rattle.words.specs.Words.{count};
 ghost use Rattle.leaving.specs.Leaving.{handedBack, leaving};
-ghost use Rattle.desk.specs.Calls.{Call, outcome, slice-long, sliceAfter, step, swept};
+ghost use Rattle.calls.specs.Calls.{weak-sweep, strong-sweep};
+ghost use Rattle.desk.specs.Calls.{outcome, slice-long, sliceAfter, step, swept};
 ghost use Rattle.desk.specs.Desk.{itemsOf};
 use crate::Desk;
 use crate::Next;
@@ -47,14 +48,14 @@ impl Desk {
     }
 
     pub fn weak_sweep(self, slice: &mut [u64]) -> Next
-        ensures { λ r. ⌜ (r ≡ step self (Call.weak-sweep (now (slice .entry)))) × (now (slice .exit) ≡ sliceAfter self (Call.weak-sweep (now (slice .entry)))) ⌝ }
+        ensures { λ r. ⌜ (r ≡ step self (weak-sweep (now (slice .entry)))) × (now (slice .exit) ≡ sliceAfter self (weak-sweep (now (slice .entry)))) ⌝ }
     {
         let bound = self.weak();
         self.sweep(bound, slice)
     }
 
     pub fn strong_sweep(self, slice: &mut [u64]) -> Next
-        ensures { λ r. ⌜ (r ≡ step self (Call.strong-sweep (now (slice .entry)))) × (now (slice .exit) ≡ sliceAfter self (Call.strong-sweep (now (slice .entry)))) ⌝ }
+        ensures { λ r. ⌜ (r ≡ step self (strong-sweep (now (slice .entry)))) × (now (slice .exit) ≡ sliceAfter self (strong-sweep (now (slice .entry)))) ⌝ }
     {
         let bound = self.strong();
         self.sweep(bound, slice)

@@ -1,6 +1,7 @@
 // The calls on channels and threads: channel, new thread, end, set.
 ghost use mathlib.Core.Path.{_≡_};
-ghost use Rattle.desk.specs.Calls.{Call, step};
+ghost use Rattle.calls.specs.Calls.{new-channel, new-thread, end, set-time};
+ghost use Rattle.desk.specs.Calls.{step};
 use crate::Desk;
 use crate::Next;
 use leaving::freed_connections;
@@ -12,7 +13,7 @@ use tables::places::in_use;
 
 impl Desk {
     pub fn channel(mut self, thread: u32) -> Next
-        ensures { λ r. ⌜ r ≡ step self (Call.new-channel thread) ⌝ }
+        ensures { λ r. ⌜ r ≡ step self (new-channel thread) ⌝ }
     {
         let place = words::lowest_free(self.channels);
         let code = check(
@@ -28,7 +29,7 @@ impl Desk {
     }
 
     pub fn new_thread(mut self, thread: u32, time: u32) -> Next
-        ensures { λ r. ⌜ r ≡ step self (Call.new-thread thread time) ⌝ }
+        ensures { λ r. ⌜ r ≡ step self (new-thread thread time) ⌝ }
     {
         let mut threads = self.threads;
         let visible = self.visible(thread);
@@ -48,7 +49,7 @@ impl Desk {
     }
 
     pub fn end(mut self, thread: u32) -> Next
-        ensures { λ r. ⌜ r ≡ step self (Call.end thread) ⌝ }
+        ensures { λ r. ⌜ r ≡ step self (end thread) ⌝ }
     {
         let connections = self.connections;
         let code = check(in_use(self.living, thread, Desk::THREADS), 1, 0);
@@ -65,7 +66,7 @@ impl Desk {
     }
 
     pub fn set(mut self, thread: u32, time: u32) -> Next
-        ensures { λ r. ⌜ r ≡ step self (Call.set-time thread time) ⌝ }
+        ensures { λ r. ⌜ r ≡ step self (set-time thread time) ⌝ }
     {
         let mut threads = self.threads;
         let visible = self.visible(thread);

@@ -42,7 +42,8 @@ use Rattle.rows.specs.declared.Answer.{Answer}
 use Rattle.rows.proofs.Answer as R
 use Rattle.rows.proofs.Answer.Laws as R′
 use Rattle.desk.specs.declared.Desk.{Desk}
-use Rattle.desk.specs.Questions.{Question, reply}
+use Rattle.calls.specs.Questions.{Question}
+use Rattle.desk.specs.Questions.{reply}
 use Rattle.desk.proofs.Desk as D
 use Rattle.desk.proofs.Desk.Laws as D′
 use Rattle.lent.proofs.Lent.{desk-values}

@@ -47,7 +47,8 @@ use Rattle.rows.proofs.Answer as R
 use Rattle.rows.proofs.Answer.Laws as R′
 use Rattle.desk.specs.declared.Desk.{Desk}
 use Rattle.desk.specs.declared.Next.{Next}
-use Rattle.desk.specs.Calls.{Call, step}
+use Rattle.calls.specs.Calls.{Call}
+use Rattle.desk.specs.Calls.{step}
 use Rattle.desk.proofs.Desk as D
 use Rattle.desk.proofs.Desk.Laws as D′
 use Rattle.desk.proofs.Next as N

@@ -43,7 +43,8 @@ use Rattle.rows.specs.declared.Answer.{Answer}
 use Rattle.rows.proofs.Answer as R
 use Rattle.rows.proofs.Answer.Laws as R′
 use Rattle.desk.specs.declared.Desk.{Desk}
-use Rattle.desk.specs.Calls.{Call, step}
+use Rattle.calls.specs.Calls.{Call}
+use Rattle.desk.specs.Calls.{step}
 use Rattle.desk.proofs.Desk as D
 use Rattle.desk.proofs.Desk.Laws as D′
 use Rattle.lent.specs.Lent.{lentBack}

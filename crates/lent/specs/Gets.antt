@@ -2,8 +2,8 @@
 use mathlib.Core.Bool.{cond}
 use Prim.Native.Nat.{ℕ}
 use lib.Dec.{eqb}
-use Rattle.rows.specs.declared.Which.{Which}
-use Rattle.rows.specs.declared.Which.the-variants.{Earliest, Latest, Named}
+use Rattle.calls.specs.declared.Which.{Which}
+use Rattle.calls.specs.declared.Which.the-variants.{Earliest, Latest, Named}
 
 -- which item a get asks for, by its number
 abbrev pub whichOf : ℕ → ℕ → Which

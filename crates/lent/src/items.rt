@@ -1,13 +1,14 @@
 // The lent desk: put, the three gets, consume, consume until.
 ghost use mathlib.Core.Path.{_≡_};
-ghost use Rattle.rows.specs.declared.Which.the-variants.{Earliest, Latest, Named};
-ghost use Rattle.desk.specs.Calls.{Call, step};
+ghost use Rattle.calls.specs.declared.Which.the-variants.{Earliest, Latest, Named};
+ghost use Rattle.calls.specs.Calls.{put, get, consume, consume-until};
+ghost use Rattle.desk.specs.Calls.{step};
 ghost use Rattle.lent.specs.Lent.{lentBack};
 ghost use Rattle.lent.specs.Gets.{whichOf};
+use calls::Which;
 use desk::Desk;
 use desk::Next;
 use rows::Answer;
-use rows::Which;
 
 const EARLIEST: u32 = 0;
 
@@ -28,14 +29,14 @@ fn which_of(number: u32, timestamp: u32) -> Which
 
 // The by-value get, with the number of what it asks for.
 fn chosen(desk: Desk, thread: u32, connection: u32, number: u32, timestamp: u32) -> Next
-    ensures { λ r. ⌜ r ≡ step desk (Call.get thread connection (whichOf number timestamp)) ⌝ }
+    ensures { λ r. ⌜ r ≡ step desk (get thread connection (whichOf number timestamp)) ⌝ }
 {
     desk.get(thread, connection, which_of(number, timestamp))
 }
 
 // The three gets are this one. A by-value call with one caller is compiled into it, and then copies one table and not the desk.
 fn get(desk: &mut Desk, thread: u32, connection: u32, number: u32, timestamp: u32) -> Answer
-    ensures { λ r. ⌜ lentBack r (now (desk .exit)) ≡ step (now (desk .entry)) (Call.get thread connection (whichOf number timestamp)) ⌝ }
+    ensures { λ r. ⌜ lentBack r (now (desk .exit)) ≡ step (now (desk .entry)) (get thread connection (whichOf number timestamp)) ⌝ }
 {
     let d = *desk;
     let next = chosen(d, thread, connection, number, timestamp);
@@ -51,7 +52,7 @@ pub extern "C" fn desk_put(
     timestamp: u32,
     ticket: u64,
 ) -> Answer
-    ensures { λ r. ⌜ lentBack r (now (desk .exit)) ≡ step (now (desk .entry)) (Call.put thread connection timestamp ticket) ⌝ }
+    ensures { λ r. ⌜ lentBack r (now (desk .exit)) ≡ step (now (desk .entry)) (put thread connection timestamp ticket) ⌝ }
 {
     let d = *desk;
     let next = d.put(thread, connection, timestamp, ticket);
@@ -61,14 +62,14 @@ pub extern "C" fn desk_put(
 
 #[no_mangle]
 pub extern "C" fn desk_get_earliest(desk: &mut Desk, thread: u32, connection: u32) -> Answer
-    ensures { λ r. ⌜ lentBack r (now (desk .exit)) ≡ step (now (desk .entry)) (Call.get thread connection Earliest) ⌝ }
+    ensures { λ r. ⌜ lentBack r (now (desk .exit)) ≡ step (now (desk .entry)) (get thread connection Earliest) ⌝ }
 {
     get(desk, thread, connection, EARLIEST, 0)
 }
 
 #[no_mangle]
 pub extern "C" fn desk_get_latest(desk: &mut Desk, thread: u32, connection: u32) -> Answer
-    ensures { λ r. ⌜ lentBack r (now (desk .exit)) ≡ step (now (desk .entry)) (Call.get thread connection Latest) ⌝ }
+    ensures { λ r. ⌜ lentBack r (now (desk .exit)) ≡ step (now (desk .entry)) (get thread connection Latest) ⌝ }
 {
     get(desk, thread, connection, LATEST, 0)
 }
@@ -80,7 +81,7 @@ pub extern "C" fn desk_get_named(
     connection: u32,
     timestamp: u32,
 ) -> Answer
-    ensures { λ r. ⌜ lentBack r (now (desk .exit)) ≡ step (now (desk .entry)) (Call.get thread connection (Named timestamp)) ⌝ }
+    ensures { λ r. ⌜ lentBack r (now (desk .exit)) ≡ step (now (desk .entry)) (get thread connection (Named timestamp)) ⌝ }
 {
     get(desk, thread, connection, NAMED, timestamp)
 }
@@ -92,7 +93,7 @@ pub extern "C" fn desk_consume(
     connection: u32,
     timestamp: u32,
 ) -> Answer
-    ensures { λ r. ⌜ lentBack r (now (desk .exit)) ≡ step (now (desk .entry)) (Call.consume thread connection timestamp) ⌝ }
+    ensures { λ r. ⌜ lentBack r (now (desk .exit)) ≡ step (now (desk .entry)) (consume thread connection timestamp) ⌝ }
 {
     let d = *desk;
     let next = d.consume(thread, connection, timestamp);
@@ -107,7 +108,7 @@ pub extern "C" fn desk_consume_until(
     connection: u32,
     timestamp: u32,
 ) -> Answer
-    ensures { λ r. ⌜ lentBack r (now (desk .exit)) ≡ step (now (desk .entry)) (Call.consume-until thread connection timestamp) ⌝ }
+    ensures { λ r. ⌜ lentBack r (now (desk .exit)) ≡ step (now (desk .entry)) (consume-until thread connection timestamp) ⌝ }
 {
     let d = *desk;
     let next = d.consume_until(thread, connection, timestamp);

@@ -7,8 +7,9 @@ use Prim.Native.Nat.{ℕ, _<_, min}
 use lib.Dec.{eqb, leb, ltb}
 use borrow.Author.Tests.{ltb-true, ltb-false, le-leb, lt-leb, eqb-false}
 use Rattle.rows.specs.declared.Connection.{Connection}
-use Rattle.rows.specs.declared.State.the-variants.{Consumed}
-use Rattle.rows.specs.States.{byName, stateOf, isOpen, isUnseen, isPending}
+use Rattle.calls.specs.declared.State.the-variants.{Consumed}
+use Rattle.calls.specs.States.{isUnseen, isOpen, isPending}
+use Rattle.rows.specs.States.{byName, stateOf}
 use Rattle.rows.specs.Answers.{Check, refusing, refusal, answer, answered}
 use Rattle.rows.specs.Times.{lessIf}
 use Rattle.words.specs.Words.{has}

@@ -1,2 +1,3 @@
 -- The laws of one row, for the crates above.
 pub mod Laws
+pub mod Examples

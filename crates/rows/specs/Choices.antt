@@ -5,15 +5,15 @@ use lib.Dec.{eqb, ltb}
 use Rattle.rows.specs.declared.Item.{Item}
 use Rattle.rows.specs.declared.Found.{Found}
 use Rattle.rows.specs.declared.Found.the-variants.{At, Nothing}
-use Rattle.rows.specs.declared.Which.{Which}
-use Rattle.rows.specs.declared.Which.the-variants.{Earliest, Latest, Named}
+use Rattle.calls.specs.declared.Which.{Which}
+use Rattle.calls.specs.declared.Which.the-variants.{Earliest, Latest, Named}
 use Rattle.words.specs.Words.{without}
 
 -- "Which is earliest, latest or one named timestamp": whether a get takes the first item rather than the second
-abbrev pub sooner : Which → Item → Item → Bool
-sooner Earliest item other = ltb (item .timestamp) (other .timestamp)
-sooner Latest item other = ltb (other .timestamp) (item .timestamp)
-sooner (Named timestamp) item other = false
+abbrev pub takenBefore : Which → Item → Item → Bool
+takenBefore Earliest item other = ltb (item .timestamp) (other .timestamp)
+takenBefore Latest item other = ltb (other .timestamp) (item .timestamp)
+takenBefore (Named timestamp) item other = false
 
 -- "by channel number, then timestamp"
 unfoldable pub before : Item → Item → Bool

@@ -4,8 +4,8 @@ use Prim.Native.Nat.{ℕ}
 use lib.Dec.{eqb, leb, ltb}
 use Rattle.rows.specs.declared.Connection.{Connection}
 use Rattle.rows.specs.declared.Item.{Item}
-use Rattle.rows.specs.declared.State.{State}
-use Rattle.rows.specs.declared.State.the-variants.{Absent, Unseen, Open, Consumed}
+use Rattle.calls.specs.declared.State.{State}
+use Rattle.calls.specs.declared.State.the-variants.{Absent, Unseen, Open, Consumed}
 use Rattle.words.specs.Words.{has}
 
 -- "otherwise UNSEEN, OPEN or CONSUMED, as it was got and consumed by name": by the two facts open and consumed
@@ -21,32 +21,6 @@ stateOf connection timestamp place =
     cond (ltb timestamp (connection .mark)) Consumed
     (cond (leb 64 place) Absent
     (byName (has (connection .opened) place) (has (connection .consumed) place)))
-
--- "A state stands in the value, as 0 ABSENT, 1 UNSEEN, 2 OPEN, 3 CONSUMED"
-abbrev pub stateNumber : State → ℕ
-stateNumber Absent = 0
-stateNumber Unseen = 1
-stateNumber Open = 2
-stateNumber Consumed = 3
-
-abbrev pub isUnseen : State → Bool
-isUnseen Absent = false
-isUnseen Unseen = true
-isUnseen Open = false
-isUnseen Consumed = false
-
-abbrev pub isOpen : State → Bool
-isOpen Absent = false
-isOpen Unseen = false
-isOpen Open = true
-isOpen Consumed = false
-
--- "UNSEEN or OPEN"
-abbrev pub isPending : State → Bool
-isPending Absent = false
-isPending Unseen = true
-isPending Open = true
-isPending Consumed = false
 
 -- the item lies in the connection's channel and not below its mark
 unfoldable pub lookedAt : Connection → Item → Bool

@@ -1,24 +1,22 @@
 // How a search through the items chooses between two of them.
 ghost use mathlib.Core.Path.{_≡_};
-ghost use Rattle.rows.specs.Choices.{sooner, before, preferred, ticketOf, leftOver};
+ghost use Rattle.rows.specs.Choices.{takenBefore, before, preferred, ticketOf, leftOver};
 use crate::Found;
 use crate::Item;
-use crate::Which;
+use calls::Which;
 
-impl Which {
+impl Item {
     // Whether a get that asks so takes the item rather than the other one.
-    pub fn takes(self, item: Item, other: Item) -> bool
-        ensures { λ r. ⌜ r ≡ sooner self item other ⌝ }
+    pub fn taken_before(self, other: Item, which: Which) -> bool
+        ensures { λ r. ⌜ r ≡ takenBefore which self other ⌝ }
     {
-        match self {
-            Which::Earliest => item.timestamp < other.timestamp,
-            Which::Latest => other.timestamp < item.timestamp,
+        match which {
+            Which::Earliest => self.timestamp < other.timestamp,
+            Which::Latest => other.timestamp < self.timestamp,
             Which::Named(_) => false,
         }
     }
-}
 
-impl Item {
     // Whether the item comes before the other one: by channel number, then timestamp.
     pub fn comes_before(self, other: Item) -> bool
         ensures { λ r. ⌜ r ≡ before self other ⌝ }
@@ -33,11 +31,11 @@ impl Item {
 impl Found {
     // What was found, or the item in the place where a get that asks so takes that one.
     pub fn or_taken(self, which: Which, place: u32, item: Item) -> Found
-        ensures { λ r. ⌜ r ≡ preferred (sooner which) self place item ⌝ }
+        ensures { λ r. ⌜ r ≡ preferred (takenBefore which) self place item ⌝ }
     {
         match self {
             Found::At(_, other) => {
-                if which.takes(item, other) {
+                if item.taken_before(other, which) {
                     return Found::At(place, item);
                 }
                 self

@@ -1,41 +1,9 @@
 // The four states of a timestamp on an input connection.
 ghost use mathlib.Core.Path.{_≡_};
-ghost use Rattle.rows.specs.States.{stateOf, stateNumber, isOpen, isPending, lookedAt};
+ghost use Rattle.rows.specs.States.{stateOf, lookedAt};
 use crate::Connection;
 use crate::Item;
-use crate::State;
-
-impl State {
-    // The number by which document 01 answers the state.
-    pub fn number(self) -> u64
-        ensures { λ r. ⌜ r ≡ stateNumber self ⌝ }
-    {
-        match self {
-            State::Absent => 0,
-            State::Unseen => 1,
-            State::Open => 2,
-            State::Consumed => 3,
-        }
-    }
-
-    pub fn is_open(self) -> bool
-        ensures { λ r. ⌜ r ≡ isOpen self ⌝ }
-    {
-        match self {
-            State::Open => true,
-            State::Absent | State::Unseen | State::Consumed => false,
-        }
-    }
-
-    pub fn is_pending(self) -> bool
-        ensures { λ r. ⌜ r ≡ isPending self ⌝ }
-    {
-        match self {
-            State::Unseen | State::Open => true,
-            State::Absent | State::Consumed => false,
-        }
-    }
-}
+use calls::State;
 
 impl Connection {
     // The state of a timestamp whose item lies in the place; a place past 63 says that the channel has none.

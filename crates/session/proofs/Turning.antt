@@ -11,7 +11,8 @@ use Rattle.words.proofs.Laws.{count-le}
 use Rattle.rows.specs.Answers.{answer, answered, refusal}
 use Rattle.desk.specs.declared.Desk.{Desk}
 use Rattle.desk.specs.declared.Next.{Next}
-use Rattle.desk.specs.Calls.{Call, weak-sweep, strong-sweep, checks, value, time, outcome, step, sliceAfter}
+use Rattle.calls.specs.Calls.{Call, weak-sweep, strong-sweep}
+use Rattle.desk.specs.Calls.{checks, value, time, outcome, step, sliceAfter}
 use Rattle.lines.specs.declared.Line.{Line}
 use Rattle.lines.specs.declared.Line.the-variants.{Channel, NewThread, AttachInput, AttachOutput, Detach, End, Set, Put, GetEarliest, GetLatest, GetNamed, Consume, ConsumeUntil, WeakSweep, StrongSweep, Unreadable}
 use Rattle.lines.specs.Lines.{readLine}

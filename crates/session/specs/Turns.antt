@@ -5,10 +5,11 @@ use Prim.Native.Nat.{ℕ}
 use lib.Dec.{eqb}
 use lib.ListN.{replicate, take}
 use Rattle.rows.specs.declared.Answer.{Answer}
-use Rattle.rows.specs.declared.Which.the-variants.{Earliest, Latest, Named}
+use Rattle.calls.specs.declared.Which.the-variants.{Earliest, Latest, Named}
+use Rattle.calls.specs.Calls.{Call, new-channel, new-thread, attach-input, attach-output, detach, end, set-time, put, get, consume, consume-until, weak-sweep, strong-sweep}
 use Rattle.rows.specs.Answers.{answer}
 use Rattle.desk.specs.declared.Desk.{Desk}
-use Rattle.desk.specs.Calls.{Call, new-channel, new-thread, attach-input, attach-output, detach, end, set-time, put, get, consume, consume-until, weak-sweep, strong-sweep, step, sliceAfter}
+use Rattle.desk.specs.Calls.{step, sliceAfter}
 use Rattle.lines.specs.declared.Line.{Line}
 use Rattle.lines.specs.declared.Line.the-variants.{Channel, NewThread, AttachInput, AttachOutput, Detach, End, Set, Put, GetEarliest, GetLatest, GetNamed, Consume, ConsumeUntil, WeakSweep, StrongSweep, Unreadable}
 use Rattle.lines.specs.Lines.{readLine}

@@ -8,11 +8,11 @@ ghost use lib.ListN.{drop, length, replicate, take};
 ghost use Rattle.session.specs.Turns.{turnBy};
 ghost use Rattle.session.specs.Tickets.{sweptCount, ticketCount};
 ghost use Rattle.session.specs.Stream.{printedAtEnd, printedFor, readerAfter, start, usedOf};
+use calls::Which;
 use desk::Desk;
 use desk::Next;
 use lines::Line;
 use rows::Answer;
-use rows::Which;
 
 // The places that the longest answer can take.
 const LONGEST_ANSWER: usize = 1407;

@@ -14,7 +14,8 @@ use Rattle.rows.specs.declared.Thread.{Thread}
 use Rattle.rows.specs.declared.Connection.{Connection}
 use Rattle.rows.specs.declared.Item.{Item}
 use Rattle.rows.specs.Numbers.{never, input}
-use Rattle.rows.specs.States.{isPending, lookedAt, stateOf}
+use Rattle.calls.specs.States.{isPending}
+use Rattle.rows.specs.States.{lookedAt, stateOf}
 use Rattle.rows.specs.Times.{lessIf}
 use Rattle.rows.proofs.Laws.{and-assoc, and-comm, bool-cases, cond-same, open-is}
 use Rattle.tables.specs.Tables.{Table, threadAt, connectionAt, itemAt, isInput, readsFor}

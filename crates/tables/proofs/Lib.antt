@@ -2,3 +2,4 @@
 pub mod Least
 pub mod Lowest
 pub mod Used
+pub mod Examples

@@ -9,9 +9,9 @@ use Rattle.rows.specs.declared.Connection.{Connection}
 use Rattle.rows.specs.declared.Item.{Item}
 use Rattle.rows.specs.declared.Found.{Found}
 use Rattle.rows.specs.declared.Found.the-variants.{Nothing}
-use Rattle.rows.specs.declared.Which.{Which}
-use Rattle.rows.specs.declared.Which.the-variants.{Earliest, Latest, Named}
-use Rattle.rows.specs.Choices.{sooner, preferred}
+use Rattle.calls.specs.declared.Which.{Which}
+use Rattle.calls.specs.declared.Which.the-variants.{Earliest, Latest, Named}
+use Rattle.rows.specs.Choices.{takenBefore, preferred}
 use Rattle.rows.specs.Numbers.{noItem}
 use Rattle.tables.specs.Tables.{Table, itemAt, itemPlaces}
 use Rattle.tables.specs.Seen.{isUnseenAt}
@@ -29,4 +29,4 @@ isWanted (Named timestamp) item = eqb (item .timestamp) timestamp
 -- what a get through the connection finds
 unfoldable pub sought : Table Item → Connection → Which → Found
 sought items connection which =
-    chosen (items .rows) (sooner which) (λ p. isUnseenAt items connection p && isWanted which (itemAt items p))
+    chosen (items .rows) (takenBefore which) (λ p. isUnseenAt items connection p && isWanted which (itemAt items p))

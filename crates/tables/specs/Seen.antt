@@ -5,8 +5,9 @@ use lib.Dec.{eqb}
 use Rattle.words.specs.Places.{lowestOf}
 use Rattle.rows.specs.declared.Connection.{Connection}
 use Rattle.rows.specs.declared.Item.{Item}
-use Rattle.rows.specs.declared.State.{State}
-use Rattle.rows.specs.States.{stateOf, isUnseen, isOpen, isPending}
+use Rattle.calls.specs.declared.State.{State}
+use Rattle.calls.specs.States.{isUnseen, isOpen, isPending}
+use Rattle.rows.specs.States.{stateOf}
 use Rattle.tables.specs.Tables.{Table, itemAt, isPresent, itemPlaces}
 
 -- the channel has an item with the timestamp, and it lies in the place

@@ -6,10 +6,10 @@ ghost use Rattle.rows.specs.States.{lookedAt};
 ghost use Rattle.tables.specs.Tables.{table};
 ghost use Rattle.tables.specs.Seen.{placeOf};
 ghost use Rattle.tables.specs.Search.{isWanted, sought};
+use calls::Which;
 use rows::Connection;
 use rows::Found;
 use rows::Item;
-use rows::Which;
 
 // The place of the channel's item with the timestamp; 64 where the channel has none.
 pub fn find(items: [Item; 64], present: u64, channel: u32, timestamp: u32) -> u32

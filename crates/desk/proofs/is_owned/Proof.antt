@@ -5,9 +5,6 @@ use borrow.Author.Tests.{not-true, not-false}
 use Rattle.desk.proofs.is_owned.Statement.{statement}
 use Rattle.desk.proofs.is_owned.Tie as tie
 
-in-use-requires : tie.Need-in-use-requires
-in-use-requires c κs = search needs
-
 returns : tie.Need-returns
 returns c = simp (sym (c .before .in-use .ensures) ∙ not-true _ (c .if1 .taken))
 
@@ -15,4 +12,4 @@ returns-2 : tie.Need-returns-2
 returns-2 c = simp (sym (c .before .before .in-use .ensures) ∙ not-false _ (c .before .if1 .left))
 
 pub is-owned-spec : {M : Type 1} → statement M
-is-owned-spec = tie.close (tie.spec in-use-requires returns returns-2)
+is-owned-spec = tie.close (tie.spec (λ c κs. search needs) returns returns-2)

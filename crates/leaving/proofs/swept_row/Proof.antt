@@ -7,9 +7,6 @@ use Rattle.rows.specs.Facts.{raised}
 use Rattle.leaving.proofs.swept_row.Statement.{statement}
 use Rattle.leaving.proofs.swept_row.Tie as tie
 
-cleared-requires : tie.Need-cleared-requires
-cleared-requires c κs = search needs
-
 returns : tie.Need-returns
 returns c = simp (not-true (c .before .before .args .used) (c .if1 .taken)) (c .before .cleared .ensures)
 
@@ -17,9 +14,6 @@ returns-2 : tie.Need-returns-2
 returns-2 c =
     let used = c .before .before in
     simp (not-false (used .before .before .args .used) (used .if1 .left), ne-eqb _ _ (c .if2 .taken)) (used .before .cleared .ensures)
-
-raised-requires : tie.Need-raised-requires
-raised-requires c κs = search needs
 
 returns-3 : tie.Need-returns-3
 returns-3 c =
@@ -29,4 +23,4 @@ returns-3 c =
     (c .raised .ensures ∙ ap (λ (row : Connection). raised row (used .before .before .args .bound)) (used .before .cleared .ensures))
 
 pub swept-row-spec : {M : Type 1} → statement M
-swept-row-spec = tie.close (tie.spec cleared-requires returns returns-2 raised-requires returns-3)
+swept-row-spec = tie.close (tie.spec (λ c κs. search needs) returns returns-2 (λ c κs. search needs) returns-3)

@@ -4,9 +4,6 @@ use borrow.Author.Tests.{eq-eqb, ne-eqb}
 use Rattle.lines.proofs.called.Statement.{statement}
 use Rattle.lines.proofs.called.Tie as tie
 
-call-of-requires : tie.Need-call-of-requires
-call-of-requires c κs = search needs
-
 returns : tie.Need-returns
 returns c =
     rw (eq-eqb _ _ (c .if1 .taken)) at (c .before .call-of .ensures (c .before .before .args .count))
@@ -16,4 +13,4 @@ returns-2 c =
     rw (ne-eqb _ _ (c .if1 .left)) at (c .before .call-of .ensures (c .before .before .args .count))
 
 pub called-spec : {M : Type 1} → statement M
-called-spec = tie.close (tie.spec call-of-requires returns returns-2)
+called-spec = tie.close (tie.spec (λ c κs. search needs) returns returns-2)

@@ -79,26 +79,11 @@ third c =
     (c .before .before .c .given .1)
     (c .if5 .left)
 
-shared-slice-read-letter : tie.Need-shared-slice-read-letter
-shared-slice-read-letter c = search needs
-
-called-requires : tie.Need-called-requires
-called-requires c κs = search needs
-
 returns : tie.Need-returns
 returns c = c .called .ensures ∙ sym (letter-alone _ (c .before .if1 .taken))
 
-shared-slice-read-if2 : tie.Need-shared-slice-read-if2
-shared-slice-read-if2 c = search needs
-
 returns-2 : tie.Need-returns-2
 returns-2 c = sym (letter-joined _ (longer (c .before .before)) (c .if2 .taken))
-
-number-at-requires : tie.Need-number-at-requires
-number-at-requires c κs = search needs
-
-enum-known-a : tie.Need-enum-known-a
-enum-known-a c = search needs
 
 enum-told : tie.Need-enum-told
 enum-told c = search needs
@@ -112,27 +97,12 @@ returns-3 c =
 cast-a : tie.Need-cast-a
 cast-a c = record { fits = fits _ _ _ (c .before .before .before .number-at .ensures) (c .before .a .given .1) }
 
-called-requires-2 : tie.Need-called-requires-2
-called-requires-2 c κs = search needs
-
 returns-4 : tie.Need-returns-4
 returns-4 c =
     let at-letter = c .before .before .before .before .before .before in
     let is = c .before .before .before .before .before .number-at .ensures in
     let last = holds-last _ _ _ is (c .before .before .before .a .given .1) (c .before .if3 .taken) in
     rw (c .called2 .ensures) (sym (apart at-letter ∙ one-number _ last))
-
-add-number-at : tie.Need-add-number-at
-add-number-at c = search needs
-
-number-at-requires-2 : tie.Need-number-at-requires-2
-number-at-requires-2 c κs = search needs
-
-enum-known-b : tie.Need-enum-known-b
-enum-known-b c = search needs
-
-enum-told-2 : tie.Need-enum-told-2
-enum-told-2 c = search needs
 
 returns-5 : tie.Need-returns-5
 returns-5 c =
@@ -144,9 +114,6 @@ returns-5 c =
 cast-b : tie.Need-cast-b
 cast-b c = record { fits = fits _ _ _ (c .before .before .before .number-at2 .ensures) (c .before .b .given .1) }
 
-called-requires-3 : tie.Need-called-requires-3
-called-requires-3 c κs = search needs
-
 returns-6 : tie.Need-returns-6
 returns-6 c =
     let at-first = c .before .before .before .before .before .before in
@@ -154,18 +121,6 @@ returns-6 c =
     let is = c .before .before .before .before .before .number-at2 .ensures in
     let last = holds-last _ _ _ is (c .before .before .before .b .given .1) (c .before .if4 .taken) in
     rw (c .called3 .ensures) (sym (apart at-letter ∙ two-numbers _ (first at-first) last))
-
-add-number-at-2 : tie.Need-add-number-at-2
-add-number-at-2 c = search needs
-
-number-at-requires-3 : tie.Need-number-at-requires-3
-number-at-requires-3 c κs = search needs
-
-enum-known-c : tie.Need-enum-known-c
-enum-known-c c = search needs
-
-enum-told-3 : tie.Need-enum-told-3
-enum-told-3 c = search needs
 
 returns-7 : tie.Need-returns-7
 returns-7 c =
@@ -178,9 +133,6 @@ returns-7 c =
 cast-c : tie.Need-cast-c
 cast-c c = record { fits = fits _ _ _ (c .before .before .before .number-at3 .ensures) (c .before .c .given .1) }
 
-called-requires-4 : tie.Need-called-requires-4
-called-requires-4 c κs = search needs
-
 returns-8 : tie.Need-returns-8
 returns-8 c =
     let at-second = c .before .before .before .before .before .before in
@@ -190,18 +142,6 @@ returns-8 c =
     let last = holds-last _ _ _ is (c .before .before .before .c .given .1) (c .before .if5 .taken) in
     rw (c .called4 .ensures) (sym (apart at-letter ∙ three-numbers _ (first at-first) (second at-second) last))
 
-add-number-at-3 : tie.Need-add-number-at-3
-add-number-at-3 c = search needs
-
-number-at-requires-4 : tie.Need-number-at-requires-4
-number-at-requires-4 c κs = search needs
-
-enum-known-d : tie.Need-enum-known-d
-enum-known-d c = search needs
-
-enum-told-4 : tie.Need-enum-told-4
-enum-told-4 c = search needs
-
 returns-9 : tie.Need-returns-9
 returns-9 c =
     let at-third = c .before .before .before in
@@ -210,9 +150,6 @@ returns-9 c =
     let at-letter = letter-read at-first in
     let bad = fails _ _ _ (c .before .before .number-at4 .ensures) (c .enum-told4 .given .1) in
     sym (apart at-letter ∙ fails-fourth _ (first at-first) (second at-second) (third at-third) bad)
-
-called-requires-5 : tie.Need-called-requires-5
-called-requires-5 c κs = search needs
 
 returns-10 : tie.Need-returns-10
 returns-10 c =
@@ -239,39 +176,39 @@ pub parted-spec : {M : Type 1} → statement M
 parted-spec =
     tie.close
     (tie.spec
-    shared-slice-read-letter
-    called-requires
+    (λ c. search needs)
+    (λ c κs. search needs)
     returns
-    shared-slice-read-if2
+    (λ c. search needs)
     returns-2
-    number-at-requires
-    enum-known-a
+    (λ c κs. search needs)
+    (λ c. search needs)
     enum-told
     returns-3
     cast-a
-    called-requires-2
+    (λ c κs. search needs)
     returns-4
-    add-number-at
-    number-at-requires-2
-    enum-known-b
-    enum-told-2
+    (λ c. search needs)
+    (λ c κs. search needs)
+    (λ c. search needs)
+    (λ c. search needs)
     returns-5
     cast-b
-    called-requires-3
+    (λ c κs. search needs)
     returns-6
-    add-number-at-2
-    number-at-requires-3
-    enum-known-c
-    enum-told-3
+    (λ c. search needs)
+    (λ c κs. search needs)
+    (λ c. search needs)
+    (λ c. search needs)
     returns-7
     cast-c
-    called-requires-4
+    (λ c κs. search needs)
     returns-8
-    add-number-at-3
-    number-at-requires-4
-    enum-known-d
-    enum-told-4
+    (λ c. search needs)
+    (λ c κs. search needs)
+    (λ c. search needs)
+    (λ c. search needs)
     returns-9
-    called-requires-5
+    (λ c κs. search needs)
     returns-10
     returns-11)

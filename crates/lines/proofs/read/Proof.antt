@@ -16,13 +16,10 @@ returns-2 : tie.Need-returns-2
 unfolding readLine
 returns-2 c = simp (lt-leb (length (c .before .before .before .args .line .now)) 80 (omega arith))
 
-parted-requires : tie.Need-parted-requires
-parted-requires c κs = search needs
-
 returns-3 : tie.Need-returns-3
 unfolding readLine
 returns-3 c =
     simp (le-leb (length (c .before .before .before .before .args .line .now)) 80 (omega arith)) (c .parted .ensures)
 
 pub read-spec : {M : Type 1} → statement M
-read-spec = tie.close (tie.spec returns returns-2 parted-requires returns-3)
+read-spec = tie.close (tie.spec returns returns-2 (λ c κs. search needs) returns-3)

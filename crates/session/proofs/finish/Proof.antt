@@ -19,15 +19,6 @@ returns-2 c =
     let fits : 1407 ≤ length (c .before .before .before .before .args .out .now) = omega arith in
     rw (le-ltb _ 1407 fits, eq-eqb _ _ (c .if2 .taken)) (refl, refl)
 
-slice-aggregate-feed : tie.Need-slice-aggregate-feed
-slice-aggregate-feed c = search needs
-
-feed-requires : tie.Need-feed-requires
-feed-requires c κs = search needs
-
-same-length : tie.Need-same-length
-same-length c = search needs
-
 returns-3 : tie.Need-returns-3
 returns-3 c =
     let fed = c .before .before in
@@ -39,4 +30,4 @@ returns-3 c =
 
 pub finish-spec : {M : Type 1} → statement M
 finish-spec =
-    tie.close (tie.spec returns returns-2 slice-aggregate-feed feed-requires same-length returns-3)
+    tie.close (tie.spec returns returns-2 (λ c. search needs) (λ c κs. search needs) (λ c. search needs) returns-3)

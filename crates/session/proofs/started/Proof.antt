@@ -4,12 +4,9 @@ use borrow.Author.Needs.{needs}
 use Rattle.session.proofs.started.Statement.{statement}
 use Rattle.session.proofs.started.Tie as tie
 
-fresh-requires : tie.Need-fresh-requires
-fresh-requires c κs = search needs
-
 returns : tie.Need-returns
 unfolding start
 returns c = rw (c .fresh .ensures)
 
 pub started-spec : {M : Type 1} → statement M
-started-spec = tie.close (tie.spec fresh-requires returns)
+started-spec = tie.close (tie.spec (λ c κs. search needs) returns)

@@ -16,15 +16,6 @@ use Rattle.session.proofs.ticket_count.Tie as tie
 enum-told : tie.Need-enum-told
 enum-told c = search needs
 
-swept-count-requires : tie.Need-swept-count-requires
-swept-count-requires c κs = search needs
-
-enum-told-2 : tie.Need-enum-told-2
-enum-told-2 c = search needs
-
-swept-count-requires-2 : tie.Need-swept-count-requires-2
-swept-count-requires-2 c κs = search needs
-
 -- the lines that are no sweep, by their places among the variants
 abbrev others : List ℕ
 others = 0 ∷ 1 ∷ 2 ∷ 3 ∷ 4 ∷ 5 ∷ 6 ∷ 7 ∷ 8 ∷ 9 ∷ 10 ∷ 11 ∷ 12 ∷ 15 ∷ []
@@ -64,9 +55,9 @@ ticket-count-spec =
     tie.close
     (tie.spec
     enum-told
-    swept-count-requires
-    enum-told-2
-    swept-count-requires-2
+    (λ c κs. search needs)
+    (λ c. search needs)
+    (λ c κs. search needs)
     returns
     returns-2
     returns-3)

@@ -10,9 +10,6 @@ use borrow.Author.Needs.{needs}
 use Rattle.text.proofs.write_answer.Statement.{statement}
 use Rattle.text.proofs.write_answer.Tie as tie
 
-has-room-requires : tie.Need-has-room-requires
-has-room-requires c κs = search needs
-
 returns : tie.Need-returns
 returns c = rw (sym (c .before .has-room .ensures) ∙ not-true _ (c .if1 .taken)) (refl, refl)
 
@@ -21,9 +18,6 @@ write-line-requires c κs =
     let there = sym (c .before .before .has-room .ensures) ∙ not-false _ (c .before .if1 .left) in
     let room = room-is _ _ _ _ there in
     (omega arith, omega arith)
-
-same-length : tie.Need-same-length
-same-length c = search needs
 
 returns-2 : tie.Need-returns-2
 returns-2 c =
@@ -37,4 +31,4 @@ returns-2 c =
 
 pub write-answer-spec : {M : Type 1} → statement M
 write-answer-spec =
-    tie.close (tie.spec has-room-requires returns write-line-requires same-length returns-2)
+    tie.close (tie.spec (λ c κs. search needs) returns write-line-requires (λ c. search needs) returns-2)

@@ -8,12 +8,6 @@ use borrow.Author.Needs.{needs}
 use Rattle.text.proofs.write_field.Statement.{statement}
 use Rattle.text.proofs.write_field.Tie as tie
 
-slice-write-out : tie.Need-slice-write-out
-slice-write-out c = search needs
-
-add-write-number : tie.Need-add-write-number
-add-write-number c = search needs
-
 write-number-requires : tie.Need-write-number-requires
 write-number-requires c κs = simp length-set (omega arith)
 
@@ -26,4 +20,4 @@ returns c = (next (one-wrote _ _ 32) (c .before .before .write-number .ensures .
 
 pub write-field-spec : {M : Type 1} → statement M
 write-field-spec =
-    tie.close (tie.spec slice-write-out add-write-number write-number-requires same-length returns)
+    tie.close (tie.spec (λ c. search needs) (λ c. search needs) write-number-requires same-length returns)

@@ -10,11 +10,8 @@ use Rattle.words.proofs.has.Tie as tie
 returns : tie.Need-returns
 returns c = sym (has-past (c .before .args .word) (c .before .args .place) (c .before .fits .word .fits) (omega arith))
 
-shr-result : tie.Need-shr-result
-shr-result c = search needs
-
 returns-2 : tie.Need-returns-2
 returns-2 c = has-is (c .before .args .word) (c .before .args .place)
 
 pub has-spec : {M : Type 1} → statement M
-has-spec = tie.close (tie.spec returns shr-result returns-2)
+has-spec = tie.close (tie.spec returns (λ c. search needs) returns-2)

@@ -9,11 +9,8 @@ use Rattle.words.proofs.with.Tie as tie
 returns : tie.Need-returns
 returns c = with-past (c .before .args .word) (c .before .args .place) (c .before .fits .word .fits) (omega arith)
 
-shl-result : tie.Need-shl-result
-shl-result c = search needs
-
 returns-2 : tie.Need-returns-2
 returns-2 c = with-is (c .before .args .word) (c .before .args .place) (c .before .fits .word .fits) (omega arith)
 
 pub with-spec : {M : Type 1} → statement M
-with-spec = tie.close (tie.spec returns shl-result returns-2)
+with-spec = tie.close (tie.spec returns (λ c. search needs) returns-2)

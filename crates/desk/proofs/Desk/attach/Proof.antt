@@ -5,46 +5,17 @@ use mathlib.Core.Path.{_≡_, refl, sym, _∙_}
 use mathlib.Core.List.{List}
 use Rattle.rows.specs.Answers.{Check, refusal}
 use Rattle.rows.proofs.Laws.{passed}
-use Rattle.desk.specs.Calls.{Call, attachedAs, checks}
+use Rattle.calls.specs.Calls.{attach-output}
+use Rattle.desk.specs.Calls.{attachedAs, checks}
 use Rattle.desk.proofs.Outcome.{joined}
 use Rattle.desk.proofs.Desk.attach.Statement.{statement}
 use Rattle.desk.proofs.Desk.attach.Tie as tie
-
-lowest-free-requires : tie.Need-lowest-free-requires
-lowest-free-requires c κs = search needs
-
-in-use-requires : tie.Need-in-use-requires
-in-use-requires c κs = search needs
-
-in-use-requires-2 : tie.Need-in-use-requires-2
-in-use-requires-2 c κs = search needs
-
-check-requires : tie.Need-check-requires
-check-requires c κs = search needs
-
-check-requires-2 : tie.Need-check-requires-2
-check-requires-2 c κs = search needs
-
-check-requires-3 : tie.Need-check-requires-3
-check-requires-3 c κs = search needs
-
-cast-with-code : tie.Need-cast-with-code
-cast-with-code c = search needs
-
-with-code-requires : tie.Need-with-code-requires
-with-code-requires c κs = search needs
-
-cast-connections : tie.Need-cast-connections
-cast-connections c = search needs
-
-mul-connections : tie.Need-mul-connections
-mul-connections c = search needs
 
 -- 01's checks of the call; attach input has the same
 abbrev asked : tie.After-check3 → List Check
 asked c =
     let given = c .before .before .before .before .before .before .before .args in
-    checks (given .self) (Call.attach-output (given .thread) (given .channel))
+    checks (given .self) (attach-output (given .thread) (given .channel))
 
 code-of : (c : tie.After-check3) → c .check3 .result ≡ refusal (asked c)
 unfolding refusal checks
@@ -64,9 +35,6 @@ array-set-from-connections c =
     let pass = passed (asked checked) (refl, (refl, (refl, tt))) (sym (code-of checked) ∙ c .if1 .taken) in
     rw free (ltb-true _ _ (pass .1 .1 .0))
 
-with-requires : tie.Need-with-requires
-with-requires c κs = search needs
-
 returns : tie.Need-returns
 unfolding attachedAs
 returns c =
@@ -82,16 +50,16 @@ pub attach-spec : {M : Type 1} → statement M
 attach-spec =
     tie.close
     (tie.spec
-    lowest-free-requires
-    in-use-requires
-    in-use-requires-2
-    check-requires
-    check-requires-2
-    check-requires-3
-    cast-with-code
-    with-code-requires
-    cast-connections
-    mul-connections
+    (λ c κs. search needs)
+    (λ c κs. search needs)
+    (λ c κs. search needs)
+    (λ c κs. search needs)
+    (λ c κs. search needs)
+    (λ c κs. search needs)
+    (λ c. search needs)
+    (λ c κs. search needs)
+    (λ c. search needs)
+    (λ c. search needs)
     array-set-from-connections
-    with-requires
+    (λ c κs. search needs)
     returns)

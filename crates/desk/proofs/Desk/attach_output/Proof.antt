@@ -4,12 +4,9 @@ use Rattle.desk.specs.Calls.{step, checks, effect, value, time}
 use Rattle.desk.proofs.Desk.attach_output.Statement.{statement}
 use Rattle.desk.proofs.Desk.attach_output.Tie as tie
 
-attach-requires : tie.Need-attach-requires
-attach-requires c κs = search needs
-
 returns : tie.Need-returns
 unfolding step checks effect value time
 returns c = c .attach .ensures
 
 pub attach-output-spec : {M : Type 1} → statement M
-attach-output-spec = tie.close (tie.spec attach-requires returns)
+attach-output-spec = tie.close (tie.spec (λ c κs. search needs) returns)

@@ -7,7 +7,8 @@ use Rattle.rows.specs.Answers.{refusal}
 use Rattle.tables.specs.Tables.{inUse, owns}
 use Rattle.tables.specs.Seen.{state}
 use Rattle.desk.specs.declared.Desk.{Desk}
-use Rattle.desk.specs.Calls.{Call, step, checks, effect, value, time}
+use Rattle.calls.specs.Calls.{Call, consume}
+use Rattle.desk.specs.Calls.{step, checks, effect, value, time}
 use Rattle.desk.proofs.Outcome.{joined}
 use Rattle.desk.proofs.Owned.{used-inside, read-inside, used-own, by-use, accepted-used}
 use Rattle.desk.proofs.Desk.consume.Statement.{statement}
@@ -21,7 +22,7 @@ abbrev desk-of : tie.After-check5 → Desk
 desk-of c = start c .args .self
 
 abbrev call-of : tie.After-check5 → Call
-call-of c = let given = start c .args in Call.consume (given .thread) (given .connection) (given .timestamp)
+call-of c = let given = start c .args in consume (given .thread) (given .connection) (given .timestamp)
 
 -- the code is that of 01's checks
 code-of : (c : tie.After-check5) → c .check5 .result ≡ refusal (checks (desk-of c) (call-of c))
@@ -49,53 +50,8 @@ unfolding checks
 connection-used c zero =
     accepted-used (desk-of c) (start c .args .thread) (start c .args .connection) _ (code-of c) (refl, (refl, (refl, tt))) zero
 
-within-requires : tie.Need-within-requires
-within-requires c κs = search needs
-
-cast-row : tie.Need-cast-row
-cast-row c = search needs
-
-mul-row : tie.Need-mul-row
-mul-row c = search needs
-
 array-copy-out-row : tie.Need-array-copy-out-row
 array-copy-out-row c = rw (c .within .ensures) (read-inside (c .before .before .before .args .connection))
-
-find-requires : tie.Need-find-requires
-find-requires c κs = search needs
-
-in-use-requires : tie.Need-in-use-requires
-in-use-requires c κs = search needs
-
-is-owned-requires : tie.Need-is-owned-requires
-is-owned-requires c κs = search needs
-
-state-of-requires : tie.Need-state-of-requires
-state-of-requires c κs = search needs
-
-is-open-requires : tie.Need-is-open-requires
-is-open-requires c κs = search needs
-
-check-requires : tie.Need-check-requires
-check-requires c κs = search needs
-
-check-requires-2 : tie.Need-check-requires-2
-check-requires-2 c κs = search needs
-
-check-requires-3 : tie.Need-check-requires-3
-check-requires-3 c κs = search needs
-
-check-requires-4 : tie.Need-check-requires-4
-check-requires-4 c κs = search needs
-
-check-requires-5 : tie.Need-check-requires-5
-check-requires-5 c κs = search needs
-
-with-code-requires : tie.Need-with-code-requires
-with-code-requires c κs = search needs
-
-consumed-by-name-requires : tie.Need-consumed-by-name-requires
-consumed-by-name-requires c κs = search needs
 
 mul-connections : tie.Need-mul-connections
 mul-connections c =
@@ -119,22 +75,22 @@ pub consume-spec : {M : Type 1} → statement M
 consume-spec =
     tie.close
     (tie.spec
-    within-requires
-    cast-row
-    mul-row
+    (λ c κs. search needs)
+    (λ c. search needs)
+    (λ c. search needs)
     array-copy-out-row
-    find-requires
-    in-use-requires
-    is-owned-requires
-    state-of-requires
-    is-open-requires
-    check-requires
-    check-requires-2
-    check-requires-3
-    check-requires-4
-    check-requires-5
-    with-code-requires
-    consumed-by-name-requires
+    (λ c κs. search needs)
+    (λ c κs. search needs)
+    (λ c κs. search needs)
+    (λ c κs. search needs)
+    (λ c κs. search needs)
+    (λ c κs. search needs)
+    (λ c κs. search needs)
+    (λ c κs. search needs)
+    (λ c κs. search needs)
+    (λ c κs. search needs)
+    (λ c κs. search needs)
+    (λ c κs. search needs)
     mul-connections
     array-set-from-connections
     returns)

@@ -10,7 +10,8 @@ use Rattle.rows.specs.Numbers.{never}
 use Rattle.rows.proofs.Laws.{passed}
 use Rattle.tables.specs.Tables.{inUse, owns}
 use Rattle.desk.specs.declared.Desk.{Desk}
-use Rattle.desk.specs.Calls.{Call, step, checks, effect, value, time}
+use Rattle.calls.specs.Calls.{Call, consume-until}
+use Rattle.desk.specs.Calls.{step, checks, effect, value, time}
 use Rattle.desk.proofs.Outcome.{joined}
 use Rattle.desk.proofs.Owned.{used-inside, read-inside, used-own, by-use, accepted-used}
 use Rattle.desk.proofs.Desk.consume_until.Statement.{statement}
@@ -24,7 +25,7 @@ abbrev desk-of : tie.After-check4 → Desk
 desk-of c = start c .args .self
 
 abbrev call-of : tie.After-check4 → Call
-call-of c = let given = start c .args in Call.consume-until (given .thread) (given .connection) (given .timestamp)
+call-of c = let given = start c .args in consume-until (given .thread) (given .connection) (given .timestamp)
 
 -- the code is that of 01's checks
 code-of : (c : tie.After-check4) → c .check4 .result ≡ refusal (checks (desk-of c) (call-of c))
@@ -53,47 +54,14 @@ timestamp-below c zero =
     let pass = passed (checks (desk-of c) (call-of c)) (refl, (refl, (refl, (refl, tt)))) (sym (code-of c) ∙ zero) in
     ltb-true _ _ (pass .1 .1 .1 .0)
 
-within-requires : tie.Need-within-requires
-within-requires c κs = search needs
-
-cast-row : tie.Need-cast-row
-cast-row c = search needs
-
-mul-row : tie.Need-mul-row
-mul-row c = search needs
-
 array-copy-out-row : tie.Need-array-copy-out-row
 array-copy-out-row c = rw (c .within .ensures) (read-inside (c .before .before .args .connection))
-
-in-use-requires : tie.Need-in-use-requires
-in-use-requires c κs = search needs
-
-is-owned-requires : tie.Need-is-owned-requires
-is-owned-requires c κs = search needs
-
-check-requires : tie.Need-check-requires
-check-requires c κs = search needs
-
-check-requires-2 : tie.Need-check-requires-2
-check-requires-2 c κs = search needs
-
-check-requires-3 : tie.Need-check-requires-3
-check-requires-3 c κs = search needs
-
-check-requires-4 : tie.Need-check-requires-4
-check-requires-4 c κs = search needs
-
-with-code-requires : tie.Need-with-code-requires
-with-code-requires c κs = search needs
 
 -- 5 leaves never out, so the next timestamp is a number still
 add-raised : tie.Need-add-raised
 add-raised c =
     let given = timestamp-below (c .before .before) (c .if1 .taken) in
     omega arith
-
-raised-requires : tie.Need-raised-requires
-raised-requires c κs = search needs
 
 mul-connections : tie.Need-mul-connections
 mul-connections c =
@@ -117,19 +85,19 @@ pub consume-until-spec : {M : Type 1} → statement M
 consume-until-spec =
     tie.close
     (tie.spec
-    within-requires
-    cast-row
-    mul-row
+    (λ c κs. search needs)
+    (λ c. search needs)
+    (λ c. search needs)
     array-copy-out-row
-    in-use-requires
-    is-owned-requires
-    check-requires
-    check-requires-2
-    check-requires-3
-    check-requires-4
-    with-code-requires
+    (λ c κs. search needs)
+    (λ c κs. search needs)
+    (λ c κs. search needs)
+    (λ c κs. search needs)
+    (λ c κs. search needs)
+    (λ c κs. search needs)
+    (λ c κs. search needs)
     add-raised
-    raised-requires
+    (λ c κs. search needs)
     mul-connections
     array-set-from-connections
     returns)

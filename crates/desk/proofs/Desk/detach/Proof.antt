@@ -5,7 +5,8 @@ use borrow.Author.Needs.{needs}
 use Rattle.rows.specs.Answers.{refusal}
 use Rattle.tables.specs.Tables.{inUse, owns}
 use Rattle.desk.specs.declared.Desk.{Desk}
-use Rattle.desk.specs.Calls.{Call, step, checks, effect, value, time}
+use Rattle.calls.specs.Calls.{Call, detach}
+use Rattle.desk.specs.Calls.{step, checks, effect, value, time}
 use Rattle.desk.proofs.Outcome.{joined}
 use Rattle.desk.proofs.Owned.{used-inside, read-inside, by-use, accepted-used}
 use Rattle.desk.proofs.Desk.detach.Statement.{statement}
@@ -19,7 +20,7 @@ abbrev desk-of : tie.After-check2 → Desk
 desk-of c = start c .args .self
 
 abbrev call-of : tie.After-check2 → Call
-call-of c = let given = start c .args in Call.detach (given .thread) (given .connection)
+call-of c = let given = start c .args in detach (given .thread) (given .connection)
 
 -- the code is that of 01's checks
 code-of : (c : tie.After-check2) → c .check2 .result ≡ refusal (checks (desk-of c) (call-of c))
@@ -40,41 +41,11 @@ unfolding checks
 connection-used c zero =
     accepted-used (desk-of c) (start c .args .thread) (start c .args .connection) _ (code-of c) tt zero
 
-within-requires : tie.Need-within-requires
-within-requires c κs = search needs
-
-cast-row : tie.Need-cast-row
-cast-row c = search needs
-
-mul-row : tie.Need-mul-row
-mul-row c = search needs
-
 array-copy-out-row : tie.Need-array-copy-out-row
 array-copy-out-row c = rw (c .within .ensures) (read-inside (c .before .before .args .connection))
 
-in-use-requires : tie.Need-in-use-requires
-in-use-requires c κs = search needs
-
-is-owned-requires : tie.Need-is-owned-requires
-is-owned-requires c κs = search needs
-
-check-requires : tie.Need-check-requires
-check-requires c κs = search needs
-
-check-requires-2 : tie.Need-check-requires-2
-check-requires-2 c κs = search needs
-
-with-code-requires : tie.Need-with-code-requires
-with-code-requires c κs = search needs
-
-mul-connections : tie.Need-mul-connections
-mul-connections c = search needs
-
 array-set-from-connections : tie.Need-array-set-from-connections
 array-set-from-connections c = used-inside _ (connection-used (c .before .before) (c .if1 .taken))
-
-without-requires : tie.Need-without-requires
-without-requires c κs = search needs
 
 returns : tie.Need-returns
 unfolding step effect value time
@@ -89,16 +60,16 @@ pub detach-spec : {M : Type 1} → statement M
 detach-spec =
     tie.close
     (tie.spec
-    within-requires
-    cast-row
-    mul-row
+    (λ c κs. search needs)
+    (λ c. search needs)
+    (λ c. search needs)
     array-copy-out-row
-    in-use-requires
-    is-owned-requires
-    check-requires
-    check-requires-2
-    with-code-requires
-    mul-connections
+    (λ c κs. search needs)
+    (λ c κs. search needs)
+    (λ c κs. search needs)
+    (λ c κs. search needs)
+    (λ c κs. search needs)
+    (λ c. search needs)
     array-set-from-connections
-    without-requires
+    (λ c κs. search needs)
     returns)

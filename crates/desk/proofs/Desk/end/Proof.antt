@@ -6,34 +6,17 @@ use mathlib.Core.List.{List}
 use Rattle.rows.specs.Answers.{Check, refusal}
 use Rattle.rows.proofs.Laws.{and-left, passed}
 use Rattle.tables.specs.Tables.{inUse}
-use Rattle.desk.specs.Calls.{Call, step, checks, effect, ended, value, time}
+use Rattle.calls.specs.Calls.{end}
+use Rattle.desk.specs.Calls.{step, checks, effect, ended, value, time}
 use Rattle.desk.proofs.Outcome.{accepted, refused}
 use Rattle.desk.proofs.Desk.end.Statement.{statement}
 use Rattle.desk.proofs.Desk.end.Tie as tie
-
-in-use-requires : tie.Need-in-use-requires
-in-use-requires c κs = search needs
-
-check-requires : tie.Need-check-requires
-check-requires c κs = search needs
-
-with-code-requires : tie.Need-with-code-requires
-with-code-requires c κs = search needs
-
-owned-by-requires : tie.Need-owned-by-requires
-owned-by-requires c κs = search needs
-
-freed-connections-requires : tie.Need-freed-connections-requires
-freed-connections-requires c κs = search needs
-
-mul-t14 : tie.Need-mul-t14
-mul-t14 c = search needs
 
 -- 01's checks of the call
 abbrev asked : tie.After-check → List Check
 asked c =
     let given = c .before .before .before .args in
-    checks (given .t1) (Call.end (given .thread))
+    checks (given .t1) (end (given .thread))
 
 code-of : (c : tie.After-check) → c .check .result ≡ refusal (asked c)
 unfolding refusal checks
@@ -47,12 +30,6 @@ element-set-from-self c =
     let checked = accepting .before .before in
     let pass = passed (asked checked) (refl, tt) (sym (code-of checked) ∙ accepting .if1 .taken) in
     ltb-true _ _ (and-left _ _ (pass .0))
-
-without-requires : tie.Need-without-requires
-without-requires c κs = search needs
-
-less-requires : tie.Need-less-requires
-less-requires c κs = search needs
 
 returns : tie.Need-returns
 unfolding step effect ended value time
@@ -72,14 +49,14 @@ pub end-spec : {M : Type 1} → statement M
 end-spec =
     tie.close
     (tie.spec
-    in-use-requires
-    check-requires
-    with-code-requires
-    owned-by-requires
-    freed-connections-requires
-    mul-t14
+    (λ c κs. search needs)
+    (λ c κs. search needs)
+    (λ c κs. search needs)
+    (λ c κs. search needs)
+    (λ c κs. search needs)
+    (λ c. search needs)
     element-set-from-self
-    without-requires
-    less-requires
+    (λ c κs. search needs)
+    (λ c κs. search needs)
     returns
     returns-2)

@@ -8,7 +8,8 @@ use Rattle.rows.specs.Answers.{refusal, answered}
 use Rattle.rows.proofs.Laws.{true-not-false}
 use Rattle.tables.specs.Tables.{inUse, owns}
 use Rattle.desk.specs.declared.Desk.{Desk}
-use Rattle.desk.specs.Calls.{Call, step, checks, effect, value, time, soughtBy}
+use Rattle.calls.specs.Calls.{Call, get}
+use Rattle.desk.specs.Calls.{step, checks, effect, value, time, soughtBy}
 use Rattle.desk.proofs.Outcome.{refused, joined, unchanged}
 use Rattle.desk.proofs.Owned.{used-inside, OwnRow, read-inside, by-use, accepted-used, unused-answer}
 use Rattle.desk.proofs.Desk.get.Statement.{statement}
@@ -22,7 +23,7 @@ abbrev desk-of : tie.After-check5 → Desk
 desk-of c = start c .args .self
 
 abbrev call-of : tie.After-check5 → Call
-call-of c = let given = start c .args in Call.get (given .thread) (given .connection) (given .which)
+call-of c = let given = start c .args in get (given .thread) (given .connection) (given .which)
 
 -- the code is that of 01's checks
 code-of : (c : tie.After-check5) → c .check5 .result ≡ refusal (checks (desk-of c) (call-of c))
@@ -62,56 +63,11 @@ unused-answers : (c : tie.After-check5) → inUse (desk-of c .attached) (start c
 unfolding checks
 unused-answers c = unused-answer (desk-of c) (start c .args .thread) (start c .args .connection) _ (code-of c)
 
-within-requires : tie.Need-within-requires
-within-requires c κs = search needs
-
-cast-row : tie.Need-cast-row
-cast-row c = search needs
-
-mul-row : tie.Need-mul-row
-mul-row c = search needs
-
 array-copy-out-row : tie.Need-array-copy-out-row
 array-copy-out-row c = rw (c .within .ensures) (read-inside (c .before .before .before .args .connection))
 
-seek-requires : tie.Need-seek-requires
-seek-requires c κs = search needs
-
-in-use-requires : tie.Need-in-use-requires
-in-use-requires c κs = search needs
-
-is-owned-requires : tie.Need-is-owned-requires
-is-owned-requires c κs = search needs
-
-is-given-requires : tie.Need-is-given-requires
-is-given-requires c κs = search needs
-
-is-found-requires : tie.Need-is-found-requires
-is-found-requires c κs = search needs
-
-check-requires : tie.Need-check-requires
-check-requires c κs = search needs
-
-check-requires-2 : tie.Need-check-requires-2
-check-requires-2 c κs = search needs
-
-check-requires-3 : tie.Need-check-requires-3
-check-requires-3 c κs = search needs
-
-check-requires-4 : tie.Need-check-requires-4
-check-requires-4 c κs = search needs
-
-check-requires-5 : tie.Need-check-requires-5
-check-requires-5 c κs = search needs
-
-enum-known-found : tie.Need-enum-known-found
-enum-known-found c = search needs
-
 enum-told : tie.Need-enum-told
 enum-told c = search needs
-
-with-code-requires : tie.Need-with-code-requires
-with-code-requires c κs = search needs
 
 -- nothing is found: then there is no item to become OPEN
 returns : tie.Need-returns
@@ -122,12 +78,6 @@ returns c =
     (λ own. rw (sought-is checked own ∙ c .before .enum-told .given .1) (unchanged (desk-of checked) _ _ _ (code-of checked) (c .with-code .ensures)))
     (λ unused. refused (desk-of checked) _ _ _ _ (code-of checked) (c .with-code .ensures ∙ unused-answers checked unused _ _ _ _)
     (λ zero. true-not-false (connection-used checked zero) unused))
-
-with-code-requires-2 : tie.Need-with-code-requires-2
-with-code-requires-2 c κs = search needs
-
-got-requires : tie.Need-got-requires
-got-requires c κs = search needs
 
 mul-connections : tie.Need-mul-connections
 mul-connections c =
@@ -157,26 +107,26 @@ pub get-spec : {M : Type 1} → statement M
 get-spec =
     tie.close
     (tie.spec
-    within-requires
-    cast-row
-    mul-row
+    (λ c κs. search needs)
+    (λ c. search needs)
+    (λ c. search needs)
     array-copy-out-row
-    seek-requires
-    in-use-requires
-    is-owned-requires
-    is-given-requires
-    is-found-requires
-    check-requires
-    check-requires-2
-    check-requires-3
-    check-requires-4
-    check-requires-5
-    enum-known-found
+    (λ c κs. search needs)
+    (λ c κs. search needs)
+    (λ c κs. search needs)
+    (λ c κs. search needs)
+    (λ c κs. search needs)
+    (λ c κs. search needs)
+    (λ c κs. search needs)
+    (λ c κs. search needs)
+    (λ c κs. search needs)
+    (λ c κs. search needs)
+    (λ c. search needs)
     enum-told
-    with-code-requires
+    (λ c κs. search needs)
     returns
-    with-code-requires-2
-    got-requires
+    (λ c κs. search needs)
+    (λ c κs. search needs)
     mul-connections
     array-set-from-connections
     returns-2)

@@ -1,7 +1,8 @@
 -- `desk::Desk::new_thread` meets its contract. Assumes nothing.
 use borrow.Author.Tests.{ltb-true}
 use Rattle.desk.proofs.Outcome.{joined}
-use Rattle.desk.specs.Calls.{Call, step, checks, effect, value, time, adopted}
+use Rattle.calls.specs.Calls.{new-thread}
+use Rattle.desk.specs.Calls.{step, checks, effect, value, time, adopted}
 use Rattle.rows.proofs.Laws.{passed}
 use Rattle.rows.specs.Answers.{refusal}
 use mathlib.Core.Path.{_≡_, refl, sym, _∙_}
@@ -9,38 +10,8 @@ use borrow.Author.Needs.{needs}
 use Rattle.desk.proofs.Desk.new_thread.Statement.{statement}
 use Rattle.desk.proofs.Desk.new_thread.Tie as tie
 
-visible-requires : tie.Need-visible-requires
-visible-requires c κs = search needs
-
-lowest-free-requires : tie.Need-lowest-free-requires
-lowest-free-requires c κs = search needs
-
-in-use-requires : tie.Need-in-use-requires
-in-use-requires c κs = search needs
-
-check-requires : tie.Need-check-requires
-check-requires c κs = search needs
-
-check-requires-2 : tie.Need-check-requires-2
-check-requires-2 c κs = search needs
-
-check-requires-3 : tie.Need-check-requires-3
-check-requires-3 c κs = search needs
-
-cast-with-code : tie.Need-cast-with-code
-cast-with-code c = search needs
-
-with-code-requires : tie.Need-with-code-requires
-with-code-requires c κs = search needs
-
-cast-threads : tie.Need-cast-threads
-cast-threads c = search needs
-
-mul-threads : tie.Need-mul-threads
-mul-threads c = search needs
-
 -- the code is that of 01's checks
-code-of : (c : tie.After-check3) → let a = c .before .before .before .before .before .before .before .args in c .check3 .result ≡ refusal (checks (a .self) (Call.new-thread (a .thread) (a .time)))
+code-of : (c : tie.After-check3) → let a = c .before .before .before .before .before .before .before .args in c .check3 .result ≡ refusal (checks (a .self) (new-thread (a .thread) (a .time)))
 unfolding refusal checks
 code-of c =
     let in-use = c .before .before .before in
@@ -53,10 +24,7 @@ array-set-from-threads c =
     let k = c .before .before in
     let free = k .before .before .before .before in
     let a = free .before .before .before .args in
-    rw (free .lowest-free .ensures) (ltb-true _ _ (passed (checks (a .self) (Call.new-thread (a .thread) (a .time))) (refl, (refl, (refl, tt))) (sym (code-of k) ∙ c .if1 .taken) .1 .1 .0))
-
-with-requires : tie.Need-with-requires
-with-requires c κs = search needs
+    rw (free .lowest-free .ensures) (ltb-true _ _ (passed (checks (a .self) (new-thread (a .thread) (a .time))) (refl, (refl, (refl, tt))) (sym (code-of k) ∙ c .if1 .taken) .1 .1 .0))
 
 returns : tie.Need-returns
 unfolding step effect value time adopted
@@ -72,16 +40,16 @@ pub new-thread-spec : {M : Type 1} → statement M
 new-thread-spec =
     tie.close
     (tie.spec
-    visible-requires
-    lowest-free-requires
-    in-use-requires
-    check-requires
-    check-requires-2
-    check-requires-3
-    cast-with-code
-    with-code-requires
-    cast-threads
-    mul-threads
+    (λ c κs. search needs)
+    (λ c κs. search needs)
+    (λ c κs. search needs)
+    (λ c κs. search needs)
+    (λ c κs. search needs)
+    (λ c κs. search needs)
+    (λ c. search needs)
+    (λ c κs. search needs)
+    (λ c. search needs)
+    (λ c. search needs)
     array-set-from-threads
-    with-requires
+    (λ c κs. search needs)
     returns)

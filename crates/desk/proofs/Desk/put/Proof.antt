@@ -8,7 +8,8 @@ use Rattle.rows.specs.Answers.{refusal}
 use Rattle.rows.proofs.Laws.{passed}
 use Rattle.tables.specs.Tables.{inUse, owns}
 use Rattle.desk.specs.declared.Desk.{Desk}
-use Rattle.desk.specs.Calls.{Call, step, checks, effect, value, time, stored}
+use Rattle.calls.specs.Calls.{Call, put}
+use Rattle.desk.specs.Calls.{step, checks, effect, value, time, stored}
 use Rattle.desk.proofs.Outcome.{joined}
 use Rattle.desk.proofs.Owned.{read-inside, used-own, by-use, accepted-used, fewer-free}
 use Rattle.desk.proofs.Desk.put.Statement.{statement}
@@ -22,7 +23,7 @@ abbrev desk-of : tie.After-check7 → Desk
 desk-of c = start c .args .self
 
 abbrev call-of : tie.After-check7 → Call
-call-of c = let given = start c .args in Call.put (given .thread) (given .connection) (given .timestamp) (given .ticket)
+call-of c = let given = start c .args in put (given .thread) (given .connection) (given .timestamp) (given .ticket)
 
 -- the code is that of 01's checks
 code-of : (c : tie.After-check7) → c .check7 .result ≡ refusal (checks (desk-of c) (call-of c))
@@ -59,71 +60,11 @@ place-below c zero =
     let pass = passed (checks (desk-of c) (call-of c)) (refl, (refl, (refl, (refl, (refl, (refl, (refl, tt))))))) (sym (code-of c) ∙ zero) in
     rw (c .before .before .before .before .before .before .before .before .before .before .before .lowest-free .ensures) (fewer-free (desk-of c .present) (ltb-true _ _ (pass .1 .1 .1 .1 .1 .1 .0)))
 
-visible-requires : tie.Need-visible-requires
-visible-requires c κs = search needs
-
-within-requires : tie.Need-within-requires
-within-requires c κs = search needs
-
-cast-row : tie.Need-cast-row
-cast-row c = search needs
-
-mul-row : tie.Need-mul-row
-mul-row c = search needs
-
 array-copy-out-row : tie.Need-array-copy-out-row
 array-copy-out-row c = rw (c .within .ensures) (read-inside (c .before .before .before .before .args .connection))
 
-find-requires : tie.Need-find-requires
-find-requires c κs = search needs
-
-lowest-free-requires : tie.Need-lowest-free-requires
-lowest-free-requires c κs = search needs
-
-count-requires : tie.Need-count-requires
-count-requires c κs = search needs
-
-in-use-requires : tie.Need-in-use-requires
-in-use-requires c κs = search needs
-
-is-owned-requires : tie.Need-is-owned-requires
-is-owned-requires c κs = search needs
-
-check-requires : tie.Need-check-requires
-check-requires c κs = search needs
-
-check-requires-2 : tie.Need-check-requires-2
-check-requires-2 c κs = search needs
-
-check-requires-3 : tie.Need-check-requires-3
-check-requires-3 c κs = search needs
-
-check-requires-4 : tie.Need-check-requires-4
-check-requires-4 c κs = search needs
-
-check-requires-5 : tie.Need-check-requires-5
-check-requires-5 c κs = search needs
-
-check-requires-6 : tie.Need-check-requires-6
-check-requires-6 c κs = search needs
-
-check-requires-7 : tie.Need-check-requires-7
-check-requires-7 c κs = search needs
-
-with-code-requires : tie.Need-with-code-requires
-with-code-requires c κs = search needs
-
-cast-items : tie.Need-cast-items
-cast-items c = search needs
-
-mul-items : tie.Need-mul-items
-mul-items c = search needs
-
 array-set-from-items : tie.Need-array-set-from-items
 array-set-from-items c = place-below (c .before .before) (c .if1 .taken)
-
-with-requires : tie.Need-with-requires
-with-requires c κs = search needs
 
 returns : tie.Need-returns
 unfolding step effect value time stored
@@ -140,26 +81,26 @@ pub put-spec : {M : Type 1} → statement M
 put-spec =
     tie.close
     (tie.spec
-    visible-requires
-    within-requires
-    cast-row
-    mul-row
+    (λ c κs. search needs)
+    (λ c κs. search needs)
+    (λ c. search needs)
+    (λ c. search needs)
     array-copy-out-row
-    find-requires
-    lowest-free-requires
-    count-requires
-    in-use-requires
-    is-owned-requires
-    check-requires
-    check-requires-2
-    check-requires-3
-    check-requires-4
-    check-requires-5
-    check-requires-6
-    check-requires-7
-    with-code-requires
-    cast-items
-    mul-items
+    (λ c κs. search needs)
+    (λ c κs. search needs)
+    (λ c κs. search needs)
+    (λ c κs. search needs)
+    (λ c κs. search needs)
+    (λ c κs. search needs)
+    (λ c κs. search needs)
+    (λ c κs. search needs)
+    (λ c κs. search needs)
+    (λ c κs. search needs)
+    (λ c κs. search needs)
+    (λ c κs. search needs)
+    (λ c κs. search needs)
+    (λ c. search needs)
+    (λ c. search needs)
     array-set-from-items
-    with-requires
+    (λ c κs. search needs)
     returns)

@@ -1,7 +1,8 @@
 -- `desk::Desk::set` meets its contract. Assumes nothing.
 use Rattle.desk.proofs.Outcome.{joined}
 use Rattle.desk.proofs.Owned.{used-inside}
-use Rattle.desk.specs.Calls.{Call, step, checks, effect, value, time}
+use Rattle.calls.specs.Calls.{set-time}
+use Rattle.desk.specs.Calls.{step, checks, effect, value, time}
 use Rattle.rows.proofs.Laws.{passed}
 use Rattle.rows.specs.Answers.{refusal}
 use mathlib.Core.Path.{_≡_, refl, sym, _∙_}
@@ -9,26 +10,8 @@ use borrow.Author.Needs.{needs}
 use Rattle.desk.proofs.Desk.set.Statement.{statement}
 use Rattle.desk.proofs.Desk.set.Tie as tie
 
-visible-requires : tie.Need-visible-requires
-visible-requires c κs = search needs
-
-in-use-requires : tie.Need-in-use-requires
-in-use-requires c κs = search needs
-
-check-requires : tie.Need-check-requires
-check-requires c κs = search needs
-
-check-requires-2 : tie.Need-check-requires-2
-check-requires-2 c κs = search needs
-
-with-code-requires : tie.Need-with-code-requires
-with-code-requires c κs = search needs
-
-mul-threads : tie.Need-mul-threads
-mul-threads c = search needs
-
 -- the code is that of 01's checks
-code-of : (c : tie.After-check2) → let a = c .before .before .before .before .before .args in c .check2 .result ≡ refusal (checks (a .self) (Call.set-time (a .thread) (a .time)))
+code-of : (c : tie.After-check2) → let a = c .before .before .before .before .before .args in c .check2 .result ≡ refusal (checks (a .self) (set-time (a .thread) (a .time)))
 unfolding refusal checks
 code-of c =
     let in-use = c .before .before in
@@ -39,7 +22,7 @@ unfolding checks
 array-set-from-threads c =
     let k = c .before .before in
     let a = k .before .before .before .before .before .args in
-    used-inside (a .self .living) (passed (checks (a .self) (Call.set-time (a .thread) (a .time))) (refl, (refl, tt)) (sym (code-of k) ∙ c .if1 .taken) .0)
+    used-inside (a .self .living) (passed (checks (a .self) (set-time (a .thread) (a .time))) (refl, (refl, tt)) (sym (code-of k) ∙ c .if1 .taken) .0)
 
 returns : tie.Need-returns
 unfolding step effect value time
@@ -55,11 +38,11 @@ pub set-spec : {M : Type 1} → statement M
 set-spec =
     tie.close
     (tie.spec
-    visible-requires
-    in-use-requires
-    check-requires
-    check-requires-2
-    with-code-requires
-    mul-threads
+    (λ c κs. search needs)
+    (λ c κs. search needs)
+    (λ c κs. search needs)
+    (λ c κs. search needs)
+    (λ c κs. search needs)
+    (λ c. search needs)
     array-set-from-threads
     returns)

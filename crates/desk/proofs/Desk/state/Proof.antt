@@ -7,41 +7,8 @@ use Rattle.desk.proofs.Owned.{read-inside, by-use}
 use Rattle.desk.proofs.Desk.state.Statement.{statement}
 use Rattle.desk.proofs.Desk.state.Tie as tie
 
-within-requires : tie.Need-within-requires
-within-requires c κs = search needs
-
-cast-row : tie.Need-cast-row
-cast-row c = search needs
-
-mul-row : tie.Need-mul-row
-mul-row c = search needs
-
 array-copy-out-row : tie.Need-array-copy-out-row
 array-copy-out-row c = rw (c .within .ensures) (read-inside (c .before .before .before .args .connection))
-
-find-requires : tie.Need-find-requires
-find-requires c κs = search needs
-
-in-use-requires : tie.Need-in-use-requires
-in-use-requires c κs = search needs
-
-check-requires : tie.Need-check-requires
-check-requires c κs = search needs
-
-check-requires-2 : tie.Need-check-requires-2
-check-requires-2 c κs = search needs
-
-check-requires-3 : tie.Need-check-requires-3
-check-requires-3 c κs = search needs
-
-state-of-requires : tie.Need-state-of-requires
-state-of-requires c κs = search needs
-
-number-requires : tie.Need-number-requires
-number-requires c κs = search needs
-
-with-code-requires : tie.Need-with-code-requires
-with-code-requires c κs = search needs
 
 returns : tie.Need-returns
 unfolding reply questionChecks replyValue replyTime refusal answered state
@@ -70,16 +37,16 @@ pub state-spec : {M : Type 1} → statement M
 state-spec =
     tie.close
     (tie.spec
-    within-requires
-    cast-row
-    mul-row
+    (λ c κs. search needs)
+    (λ c. search needs)
+    (λ c. search needs)
     array-copy-out-row
-    find-requires
-    in-use-requires
-    check-requires
-    check-requires-2
-    check-requires-3
-    state-of-requires
-    number-requires
-    with-code-requires
+    (λ c κs. search needs)
+    (λ c κs. search needs)
+    (λ c κs. search needs)
+    (λ c κs. search needs)
+    (λ c κs. search needs)
+    (λ c κs. search needs)
+    (λ c κs. search needs)
+    (λ c κs. search needs)
     returns)

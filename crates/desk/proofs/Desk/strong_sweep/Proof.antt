@@ -4,19 +4,10 @@ use Rattle.desk.specs.Calls.{step, checks, effect, sliceAfter, value, ti
 use Rattle.desk.proofs.Desk.strong_sweep.Statement.{statement}
 use Rattle.desk.proofs.Desk.strong_sweep.Tie as tie
 
-strong-requires : tie.Need-strong-requires
-strong-requires c κs = search needs
-
-sweep-requires : tie.Need-sweep-requires
-sweep-requires c κs = search needs
-
-same-length : tie.Need-same-length
-same-length c = search needs
-
 -- the sweep that takes a bound, at the strong bound
 returns : tie.Need-returns
 unfolding step checks effect sliceAfter value time
 returns c = rw (c .before .before .before .before .strong .ensures) at (c .before .before .sweep .ensures)
 
 pub strong-sweep-spec : {M : Type 1} → statement M
-strong-sweep-spec = tie.close (tie.spec strong-requires sweep-requires same-length returns)
+strong-sweep-spec = tie.close (tie.spec (λ c κs. search needs) (λ c κs. search needs) (λ c. search needs) returns)

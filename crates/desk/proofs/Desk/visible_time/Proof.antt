@@ -6,18 +6,6 @@ use borrow.Author.Needs.{needs}
 use Rattle.desk.proofs.Desk.visible_time.Statement.{statement}
 use Rattle.desk.proofs.Desk.visible_time.Tie as tie
 
-visible-requires : tie.Need-visible-requires
-visible-requires c κs = search needs
-
-in-use-requires : tie.Need-in-use-requires
-in-use-requires c κs = search needs
-
-check-requires : tie.Need-check-requires
-check-requires c κs = search needs
-
-with-code-requires : tie.Need-with-code-requires
-with-code-requires c κs = search needs
-
 returns : tie.Need-returns
 unfolding reply questionChecks replyValue replyTime refusal
 returns c =
@@ -27,4 +15,4 @@ returns c =
 
 pub visible-time-spec : {M : Type 1} → statement M
 visible-time-spec =
-    tie.close (tie.spec visible-requires in-use-requires check-requires with-code-requires returns)
+    tie.close (tie.spec (λ c κs. search needs) (λ c κs. search needs) (λ c κs. search needs) (λ c κs. search needs) returns)

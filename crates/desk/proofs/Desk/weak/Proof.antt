@@ -5,18 +5,9 @@ use borrow.Author.Needs.{needs}
 use Rattle.desk.proofs.Desk.weak.Statement.{statement}
 use Rattle.desk.proofs.Desk.weak.Tie as tie
 
-least-time-requires : tie.Need-least-time-requires
-least-time-requires c κs = search needs
-
-least-keep-requires : tie.Need-least-keep-requires
-least-keep-requires c κs = search needs
-
-smaller-requires : tie.Need-smaller-requires
-smaller-requires c κs = search needs
-
 returns : tie.Need-returns
 unfolding weakBound
 returns c = c .smaller .ensures ∙ simp (c .before .before .least-time .ensures, c .before .least-keep .ensures)
 
 pub weak-spec : {M : Type 1} → statement M
-weak-spec = tie.close (tie.spec least-time-requires least-keep-requires smaller-requires returns)
+weak-spec = tie.close (tie.spec (λ c κs. search needs) (λ c κs. search needs) (λ c κs. search needs) returns)

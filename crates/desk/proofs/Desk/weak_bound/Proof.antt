@@ -6,15 +6,9 @@ use borrow.Author.Needs.{needs}
 use Rattle.desk.proofs.Desk.weak_bound.Statement.{statement}
 use Rattle.desk.proofs.Desk.weak_bound.Tie as tie
 
-weak-requires : tie.Need-weak-requires
-weak-requires c κs = search needs
-
-with-code-requires : tie.Need-with-code-requires
-with-code-requires c κs = search needs
-
 returns : tie.Need-returns
 unfolding reply questionChecks replyValue replyTime refusal
 returns c = c .with-code .ensures ∙ simp (c .before .weak .ensures)
 
 pub weak-bound-spec : {M : Type 1} → statement M
-weak-bound-spec = tie.close (tie.spec weak-requires with-code-requires returns)
+weak-bound-spec = tie.close (tie.spec (λ c κs. search needs) (λ c κs. search needs) returns)

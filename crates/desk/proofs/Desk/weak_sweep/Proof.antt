@@ -4,19 +4,10 @@ use Rattle.desk.specs.Calls.{step, checks, effect, sliceAfter, value, ti
 use Rattle.desk.proofs.Desk.weak_sweep.Statement.{statement}
 use Rattle.desk.proofs.Desk.weak_sweep.Tie as tie
 
-weak-requires : tie.Need-weak-requires
-weak-requires c κs = search needs
-
-sweep-requires : tie.Need-sweep-requires
-sweep-requires c κs = search needs
-
-same-length : tie.Need-same-length
-same-length c = search needs
-
 -- the sweep that takes a bound, at the weak bound
 returns : tie.Need-returns
 unfolding step checks effect sliceAfter value time
 returns c = rw (c .before .before .before .before .weak .ensures) at (c .before .before .sweep .ensures)
 
 pub weak-sweep-spec : {M : Type 1} → statement M
-weak-sweep-spec = tie.close (tie.spec weak-requires sweep-requires same-length returns)
+weak-sweep-spec = tie.close (tie.spec (λ c κs. search needs) (λ c κs. search needs) (λ c. search needs) returns)

@@ -16,24 +16,9 @@ largest timestamp = elim (decLe timestamp 4294967294) [
   | no above ↦ rw (lt-leb timestamp 4294967294 (omega arith)) (sym (le-ltb timestamp 4294967295 (omega arith)))
 ]
 
-enum-told : tie.Need-enum-told
-enum-told c = search needs
-
-enum-told-2 : tie.Need-enum-told-2
-enum-told-2 c = search needs
-
-enum-known-which : tie.Need-enum-known-which
-enum-known-which c = search needs
-
-returns : tie.Need-returns
-returns c = search needs
-
-returns-2 : tie.Need-returns-2
-returns-2 c = search needs
-
 returns-3 : tie.Need-returns-3
 returns-3 c = rw (c .before .which .given .1) (largest (c .before .which .given .0 .0))
 
 pub is-given-spec : {M : Type 1} → statement M
 is-given-spec =
-    tie.close (tie.spec enum-told enum-told-2 enum-known-which returns returns-2 returns-3)
+    tie.close (tie.spec (λ c. search needs) (λ c. search needs) (λ c. search needs) (λ c. search needs) (λ c. search needs) returns-3)

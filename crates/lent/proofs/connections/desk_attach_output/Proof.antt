@@ -1,7 +1,7 @@
 -- `lent::connections::desk_attach_output` meets its contract, by the law of a lent call (`Lent.antt`), at `desk::Desk::attach_output`.
 use mathlib.Core.List.{[], _∷_}
 use package.mir.Syntax.{w32}
-use Rattle.desk.specs.Calls.{Call}
+use Rattle.calls.specs.Calls.{attach-output}
 use Rattle.lent.proofs.Lent.{lent-of}
 use Rattle.desk.proofs.Desk.attach_output.Symbol as callee
 use Rattle.desk.proofs.Desk.attach_output.Met as proved
@@ -12,5 +12,5 @@ use Rattle.lent.proofs.connections.desk_attach_output.Code as code
 pub desk-attach-output-spec : {M : Type 1} → statement M
 unfolding code.routine
 desk-attach-output-spec 𝓤 H 𝓜 𝓖 𝓡 =
-    lent-of (w32 ∷ w32 ∷ []) (λ x. Call.attach-output (x .0) (x .1 .0)) 𝓤 H 𝓜 𝓖 𝓡 code.env name callee.name
+    lent-of (w32 ∷ w32 ∷ []) (λ x. attach-output (x .0) (x .1 .0)) 𝓤 H 𝓜 𝓖 𝓡 code.env name callee.name
     (code.unfolded 𝓤 H 𝓜 𝓡) (proved.met 𝓤 H 𝓜 𝓖 𝓡)

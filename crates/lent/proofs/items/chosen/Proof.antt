@@ -3,14 +3,8 @@ use borrow.Author.Needs.{needs}
 use Rattle.lent.proofs.items.chosen.Statement.{statement}
 use Rattle.lent.proofs.items.chosen.Tie as tie
 
-which-of-requires : tie.Need-which-of-requires
-which-of-requires c κs = search needs
-
-get-requires : tie.Need-get-requires
-get-requires c κs = search needs
-
 returns : tie.Need-returns
 returns c = rw (c .before .which-of .ensures) at (c .get .ensures)
 
 pub chosen-spec : {M : Type 1} → statement M
-chosen-spec = tie.close (tie.spec which-of-requires get-requires returns)
+chosen-spec = tie.close (tie.spec (λ c κs. search needs) (λ c κs. search needs) returns)

@@ -1,7 +1,7 @@
 -- `lent::items::desk_get_named` meets its contract, by the law of a desk that is passed on (`Passed.antt`), at `get`.
 use mathlib.Core.List.{[], _∷_}
 use package.mir.Syntax.{w32}
-use Rattle.desk.specs.Calls.{Call}
+use Rattle.calls.specs.Calls.{get}
 use Rattle.lent.specs.Gets.{whichOf}
 use Rattle.lent.proofs.Passed.{own, constant, passed-of}
 use Rattle.lent.proofs.items.get.Symbol as callee
@@ -14,5 +14,5 @@ pub desk-get-named-spec : {M : Type 1} → statement M
 unfolding code.routine
 desk-get-named-spec 𝓤 H 𝓜 𝓖 𝓡 =
     passed-of (own w32 ∷ own w32 ∷ constant w32 _ ∷ own w32 ∷ []) (tt, tt)
-    (λ x. Call.get (x .0) (x .1 .0) (whichOf (x .1 .1 .0) (x .1 .1 .1 .0))) 𝓤 H 𝓜 𝓖 𝓡 code.env name callee.name
+    (λ x. get (x .0) (x .1 .0) (whichOf (x .1 .1 .0) (x .1 .1 .1 .0))) 𝓤 H 𝓜 𝓖 𝓡 code.env name callee.name
     (code.unfolded 𝓤 H 𝓜 𝓡) (proved.met 𝓤 H 𝓜 𝓖 𝓡)

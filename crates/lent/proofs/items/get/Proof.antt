@@ -1,7 +1,7 @@
 -- `lent::items::get` meets its contract, by the law of a lent call (`Lent.antt`), at `chosen`.
 use mathlib.Core.List.{[], _∷_}
 use package.mir.Syntax.{w32}
-use Rattle.desk.specs.Calls.{Call}
+use Rattle.calls.specs.Calls.{get}
 use Rattle.lent.specs.Gets.{whichOf}
 use Rattle.lent.proofs.Lent.{lent-of}
 use Rattle.lent.proofs.items.chosen.Symbol as callee
@@ -13,5 +13,5 @@ use Rattle.lent.proofs.items.get.Code as code
 pub get-spec : {M : Type 1} → statement M
 unfolding code.routine
 get-spec 𝓤 H 𝓜 𝓖 𝓡 =
-    lent-of (w32 ∷ w32 ∷ w32 ∷ w32 ∷ []) (λ x. Call.get (x .0) (x .1 .0) (whichOf (x .1 .1 .0) (x .1 .1 .1 .0))) 𝓤 H 𝓜 𝓖 𝓡 code.env name callee.name
+    lent-of (w32 ∷ w32 ∷ w32 ∷ w32 ∷ []) (λ x. get (x .0) (x .1 .0) (whichOf (x .1 .1 .0) (x .1 .1 .1 .0))) 𝓤 H 𝓜 𝓖 𝓡 code.env name callee.name
     (code.unfolded 𝓤 H 𝓜 𝓡) (proved.met 𝓤 H 𝓜 𝓖 𝓡)

@@ -1,6 +1,6 @@
 -- `lent::questions::desk_items_present` meets its contract, by the law of a question to a lent desk (`Asked.antt`), at `desk::Desk::items_present`.
 use mathlib.Core.List.{[]}
-use Rattle.desk.specs.Questions.{Question}
+use Rattle.calls.specs.Questions.{items-present}
 use Rattle.lent.proofs.Asked.{asked-of}
 use Rattle.desk.proofs.Desk.items_present.Symbol as callee
 use Rattle.desk.proofs.Desk.items_present.Met as proved
@@ -11,5 +11,5 @@ use Rattle.lent.proofs.questions.desk_items_present.Code as code
 pub desk-items-present-spec : {M : Type 1} → statement M
 unfolding code.routine
 desk-items-present-spec 𝓤 H 𝓜 𝓖 𝓡 =
-    asked-of [] (λ x. Question.items-present) 𝓤 H 𝓜 𝓖 𝓡 code.env name callee.name
+    asked-of [] (λ x. items-present) 𝓤 H 𝓜 𝓖 𝓡 code.env name callee.name
     (code.unfolded 𝓤 H 𝓜 𝓡) (proved.met 𝓤 H 𝓜 𝓖 𝓡)

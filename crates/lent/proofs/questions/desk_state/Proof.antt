@@ -1,7 +1,7 @@
 -- `lent::questions::desk_state` meets its contract, by the law of a question to a lent desk (`Asked.antt`), at `desk::Desk::state`.
 use mathlib.Core.List.{[], _∷_}
 use package.mir.Syntax.{w32}
-use Rattle.desk.specs.Questions.{Question}
+use Rattle.calls.specs.Questions.{state-of}
 use Rattle.lent.proofs.Asked.{asked-of}
 use Rattle.desk.proofs.Desk.state.Symbol as callee
 use Rattle.desk.proofs.Desk.state.Met as proved
@@ -12,5 +12,5 @@ use Rattle.lent.proofs.questions.desk_state.Code as code
 pub desk-state-spec : {M : Type 1} → statement M
 unfolding code.routine
 desk-state-spec 𝓤 H 𝓜 𝓖 𝓡 =
-    asked-of (w32 ∷ w32 ∷ []) (λ x. Question.state-of (x .0) (x .1 .0)) 𝓤 H 𝓜 𝓖 𝓡 code.env name callee.name
+    asked-of (w32 ∷ w32 ∷ []) (λ x. state-of (x .0) (x .1 .0)) 𝓤 H 𝓜 𝓖 𝓡 code.env name callee.name
     (code.unfolded 𝓤 H 𝓜 𝓡) (proved.met 𝓤 H 𝓜 𝓖 𝓡)

@@ -1,7 +1,7 @@
 -- `lent::questions::desk_visible_time` meets its contract, by the law of a question to a lent desk (`Asked.antt`), at `desk::Desk::visible_time`.
 use mathlib.Core.List.{[], _∷_}
 use package.mir.Syntax.{w32}
-use Rattle.desk.specs.Questions.{Question}
+use Rattle.calls.specs.Questions.{visible-time}
 use Rattle.lent.proofs.Asked.{asked-of}
 use Rattle.desk.proofs.Desk.visible_time.Symbol as callee
 use Rattle.desk.proofs.Desk.visible_time.Met as proved
@@ -12,5 +12,5 @@ use Rattle.lent.proofs.questions.desk_visible_time.Code as code
 pub desk-visible-time-spec : {M : Type 1} → statement M
 unfolding code.routine
 desk-visible-time-spec 𝓤 H 𝓜 𝓖 𝓡 =
-    asked-of (w32 ∷ []) (λ x. Question.visible-time (x .0)) 𝓤 H 𝓜 𝓖 𝓡 code.env name callee.name
+    asked-of (w32 ∷ []) (λ x. visible-time (x .0)) 𝓤 H 𝓜 𝓖 𝓡 code.env name callee.name
     (code.unfolded 𝓤 H 𝓜 𝓡) (proved.met 𝓤 H 𝓜 𝓖 𝓡)

@@ -1,7 +1,7 @@
 -- `lent::threads::desk_set` meets its contract, by the law of a lent call (`Lent.antt`), at `desk::Desk::set`.
 use mathlib.Core.List.{[], _∷_}
 use package.mir.Syntax.{w32}
-use Rattle.desk.specs.Calls.{Call}
+use Rattle.calls.specs.Calls.{set-time}
 use Rattle.lent.proofs.Lent.{lent-of}
 use Rattle.desk.proofs.Desk.set.Symbol as callee
 use Rattle.desk.proofs.Desk.set.Met as proved
@@ -12,5 +12,5 @@ use Rattle.lent.proofs.threads.desk_set.Code as code
 pub desk-set-spec : {M : Type 1} → statement M
 unfolding code.routine
 desk-set-spec 𝓤 H 𝓜 𝓖 𝓡 =
-    lent-of (w32 ∷ w32 ∷ []) (λ x. Call.set-time (x .0) (x .1 .0)) 𝓤 H 𝓜 𝓖 𝓡 code.env name callee.name
+    lent-of (w32 ∷ w32 ∷ []) (λ x. set-time (x .0) (x .1 .0)) 𝓤 H 𝓜 𝓖 𝓡 code.env name callee.name
     (code.unfolded 𝓤 H 𝓜 𝓡) (proved.met 𝓤 H 𝓜 𝓖 𝓡)

@@ -4,15 +4,9 @@ use Rattle.rows.specs.Facts.{cleared}
 use Rattle.rows.proofs.Connection.cleared.Statement.{statement}
 use Rattle.rows.proofs.Connection.cleared.Tie as tie
 
-less-requires : tie.Need-less-requires
-less-requires c κs = search needs
-
-less-requires-2 : tie.Need-less-requires-2
-less-requires-2 c κs = search needs
-
 returns : tie.Need-returns
 unfolding cleared
 returns c = rw (c .before .less .ensures, c .less2 .ensures)
 
 pub cleared-spec : {M : Type 1} → statement M
-cleared-spec = tie.close (tie.spec less-requires less-requires-2 returns)
+cleared-spec = tie.close (tie.spec (λ c κs. search needs) (λ c κs. search needs) returns)

@@ -4,15 +4,9 @@ use Rattle.rows.specs.Facts.{consumedByName}
 use Rattle.rows.proofs.Connection.consumed_by_name.Statement.{statement}
 use Rattle.rows.proofs.Connection.consumed_by_name.Tie as tie
 
-without-requires : tie.Need-without-requires
-without-requires c κs = search needs
-
-with-requires : tie.Need-with-requires
-with-requires c κs = search needs
-
 returns : tie.Need-returns
 unfolding consumedByName
 returns c = rw (c .before .without .ensures, c .with .ensures)
 
 pub consumed-by-name-spec : {M : Type 1} → statement M
-consumed-by-name-spec = tie.close (tie.spec without-requires with-requires returns)
+consumed-by-name-spec = tie.close (tie.spec (λ c κs. search needs) (λ c κs. search needs) returns)

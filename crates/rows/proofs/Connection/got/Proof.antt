@@ -4,12 +4,9 @@ use Rattle.rows.specs.Facts.{got}
 use Rattle.rows.proofs.Connection.got.Statement.{statement}
 use Rattle.rows.proofs.Connection.got.Tie as tie
 
-with-requires : tie.Need-with-requires
-with-requires c κs = search needs
-
 returns : tie.Need-returns
 unfolding got
 returns c = rw (c .with .ensures)
 
 pub got-spec : {M : Type 1} → statement M
-got-spec = tie.close (tie.spec with-requires returns)
+got-spec = tie.close (tie.spec (λ c κs. search needs) returns)

@@ -4,12 +4,9 @@ use Rattle.rows.specs.Facts.{raised}
 use Rattle.rows.proofs.Connection.raised.Statement.{statement}
 use Rattle.rows.proofs.Connection.raised.Tie as tie
 
-larger-requires : tie.Need-larger-requires
-larger-requires c κs = search needs
-
 returns : tie.Need-returns
 unfolding raised
 returns c = rw (c .larger .ensures)
 
 pub raised-spec : {M : Type 1} → statement M
-raised-spec = tie.close (tie.spec larger-requires returns)
+raised-spec = tie.close (tie.spec (λ c κs. search needs) returns)

@@ -15,17 +15,11 @@ returns-2 : tie.Need-returns-2
 unfolding stateOf
 returns-2 c = simp (le-ltb _ _ (c .before .if1 .left), le-leb _ _ (c .if2 .taken))
 
-has-requires : tie.Need-has-requires
-has-requires c κs = search needs
-
 returns-3 : tie.Need-returns-3
 unfolding stateOf
 returns-3 c =
     let inside = c .before .before in
     simp (le-ltb _ _ (inside .before .if1 .left), lt-leb _ _ (inside .if2 .left), sym (c .before .has .ensures) ∙ c .if3 .taken)
-
-has-requires-2 : tie.Need-has-requires-2
-has-requires-2 c κs = search needs
 
 returns-4 : tie.Need-returns-4
 unfolding stateOf
@@ -43,4 +37,4 @@ returns-5 c =
 
 pub state-of-spec : {M : Type 1} → statement M
 state-of-spec =
-    tie.close (tie.spec returns returns-2 has-requires returns-3 has-requires-2 returns-4 returns-5)
+    tie.close (tie.spec returns returns-2 (λ c κs. search needs) returns-3 (λ c κs. search needs) returns-4 returns-5)

@@ -4,12 +4,6 @@ use borrow.Author.Needs.{needs}
 use Rattle.rows.proofs.Found.or_before.Statement.{statement}
 use Rattle.rows.proofs.Found.or_before.Tie as tie
 
-enum-known-self : tie.Need-enum-known-self
-enum-known-self c = search needs
-
-comes-before-requires : tie.Need-comes-before-requires
-comes-before-requires c κs = search needs
-
 returns : tie.Need-returns
 returns c = simp (c .before .before .before .self .given .1, sym (c .before .comes-before .ensures) ∙ c .if1 .taken)
 
@@ -24,4 +18,4 @@ returns-3 c = rw (c .enum-told .given .1)
 
 pub or-before-spec : {M : Type 1} → statement M
 or-before-spec =
-    tie.close (tie.spec enum-known-self comes-before-requires returns enum-told returns-2 returns-3)
+    tie.close (tie.spec (λ c. search needs) (λ c κs. search needs) returns enum-told returns-2 returns-3)

@@ -4,9 +4,6 @@ use Rattle.rows.specs.Times.{lessIf}
 use Rattle.rows.proofs.times.least_if.Statement.{statement}
 use Rattle.rows.proofs.times.least_if.Tie as tie
 
-smaller-requires : tie.Need-smaller-requires
-smaller-requires c κs = search needs
-
 returns : tie.Need-returns
 unfolding lessIf
 returns c = rw (c .before .if1 .taken) (c .smaller .ensures)
@@ -16,4 +13,4 @@ unfolding lessIf
 returns-2 c = rw (c .if1 .left)
 
 pub least-if-spec : {M : Type 1} → statement M
-least-if-spec = tie.close (tie.spec smaller-requires returns returns-2)
+least-if-spec = tie.close (tie.spec (λ c κs. search needs) returns returns-2)

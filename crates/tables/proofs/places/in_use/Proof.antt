@@ -9,12 +9,9 @@ returns : tie.Need-returns
 unfolding inUse
 returns c = simp (le-ltb _ _ (c .if1 .taken))
 
-has-requires : tie.Need-has-requires
-has-requires c κs = search needs
-
 returns-2 : tie.Need-returns-2
 unfolding inUse
 returns-2 c = simp (lt-ltb _ _ (c .before .if1 .left)) (c .has .ensures)
 
 pub in-use-spec : {M : Type 1} → statement M
-in-use-spec = tie.close (tie.spec returns has-requires returns-2)
+in-use-spec = tie.close (tie.spec returns (λ c κs. search needs) returns-2)

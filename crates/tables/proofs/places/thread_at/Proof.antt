@@ -12,14 +12,5 @@ returns c =
     let rows = c .before .args .t1 in
     sym (List·getD-eq-default rows noThread (omega arith))
 
-mul-result : tie.Need-mul-result
-mul-result c = search needs
-
-array-copy-out-result : tie.Need-array-copy-out-result
-array-copy-out-result c = search needs
-
-returns-2 : tie.Need-returns-2
-returns-2 c = search needs
-
 pub thread-at-spec : {M : Type 1} → statement M
-thread-at-spec = tie.close (tie.spec returns mul-result array-copy-out-result returns-2)
+thread-at-spec = tie.close (tie.spec returns (λ c. search needs) (λ c. search needs) (λ c. search needs))

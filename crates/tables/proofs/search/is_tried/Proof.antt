@@ -5,18 +5,12 @@ use borrow.Author.Tests.{not-true, not-false}
 use Rattle.tables.proofs.search.is_tried.Statement.{statement}
 use Rattle.tables.proofs.search.is_tried.Tie as tie
 
-looks-at-requires : tie.Need-looks-at-requires
-looks-at-requires c κs = search needs
-
 returns : tie.Need-returns
 returns c = simp (sym (c .before .looks-at .ensures) ∙ not-true _ (c .if1 .taken))
-
-is-wanted-requires : tie.Need-is-wanted-requires
-is-wanted-requires c κs = search needs
 
 returns-2 : tie.Need-returns-2
 returns-2 c =
     simp (sym (c .before .before .looks-at .ensures) ∙ not-false _ (c .before .if1 .left)) (c .is-wanted .ensures)
 
 pub is-tried-spec : {M : Type 1} → statement M
-is-tried-spec = tie.close (tie.spec looks-at-requires returns is-wanted-requires returns-2)
+is-tried-spec = tie.close (tie.spec (λ c κs. search needs) returns (λ c κs. search needs) returns-2)

@@ -15,8 +15,8 @@ use Rattle.rows.specs.declared.Connection.{Connection}
 use Rattle.rows.specs.declared.Item.{Item}
 use Rattle.rows.specs.declared.Found.{Found}
 use Rattle.rows.specs.declared.Found.the-variants.{Nothing}
-use Rattle.rows.specs.declared.Which.{Which}
-use Rattle.rows.specs.Choices.{preferred, sooner}
+use Rattle.calls.specs.declared.Which.{Which}
+use Rattle.rows.specs.Choices.{preferred, takenBefore}
 use Rattle.rows.specs.Numbers.{noItem}
 use Rattle.rows.specs.States.{lookedAt}
 use Rattle.rows.proofs.Laws.{unseen-is}
@@ -46,7 +46,7 @@ module _ (items : List Item) (connection : Connection) (which : Which) where
 
   -- one turn of the loop
   step : ℕ → Found → Found
-  step p found = cond (tried-at p) (preferred (sooner which) found p (getD items p noItem)) found
+  step p found = cond (tried-at p) (preferred (takenBefore which) found p (getD items p noItem)) found
 
   counts : (present p : ℕ) → p < 64
       → (isUnseenAt (table present items) connection p && isWanted which (getD items p noItem)) ≡ (has (unseen present connection) p && tried-at p)
@@ -66,15 +66,15 @@ module _ (items : List Item) (connection : Connection) (which : Which) where
       ∙ ap (λ (b : Bool). b && tried-at p) (sym in-word)
 
   -- a turn of the loop where the item is tried, and one where it is not
-  tried-turn : (p : ℕ) (found : Found) {next : Found} → tried-at p ≡ true → next ≡ preferred (sooner which) found p (getD items p noItem) → next ≡ step p found
+  tried-turn : (p : ℕ) (found : Found) {next : Found} → tried-at p ≡ true → next ≡ preferred (takenBefore which) found p (getD items p noItem) → next ≡ step p found
   unfolding step
   tried-turn p found tried taken =
-      taken ∙ ap (λ (b : Bool). cond b (preferred (sooner which) found p (getD items p noItem)) found) (sym tried)
+      taken ∙ ap (λ (b : Bool). cond b (preferred (takenBefore which) found p (getD items p noItem)) found) (sym tried)
 
   idle-turn : (p : ℕ) (found : Found) → tried-at p ≡ false → found ≡ step p found
   unfolding step
   idle-turn p found idle =
-      ap (λ (b : Bool). cond b (preferred (sooner which) found p (getD items p noItem)) found) (sym idle)
+      ap (λ (b : Bool). cond b (preferred (takenBefore which) found p (getD items p noItem)) found) (sym idle)
 
   whole : (present : ℕ) → each 64 (has (unseen present connection)) step Nothing ≡ sought (table present items) connection which
   unfolding sought chosen step

@@ -6,14 +6,8 @@ use Rattle.words.specs.Words.{less}
 use Rattle.tables.proofs.search.unseen_places.Statement.{statement}
 use Rattle.tables.proofs.search.unseen_places.Tie as tie
 
-less-requires : tie.Need-less-requires
-less-requires c κs = search needs
-
-less-requires-2 : tie.Need-less-requires-2
-less-requires-2 c κs = search needs
-
 returns : tie.Need-returns
 returns c = c .less2 .ensures ∙ ap (λ (w : ℕ). less w (c .before .before .args .connection .consumed)) (c .before .less .ensures)
 
 pub unseen-places-spec : {M : Type 1} → statement M
-unseen-places-spec = tie.close (tie.spec less-requires less-requires-2 returns)
+unseen-places-spec = tie.close (tie.spec (λ c κs. search needs) (λ c κs. search needs) returns)

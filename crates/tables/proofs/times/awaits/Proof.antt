@@ -2,7 +2,7 @@
 use mathlib.Core.Path.{ap, _∙_}
 use borrow.Author.Needs.{needs}
 use borrow.Author.Tests.{eq-eqb, ne-eqb}
-use Rattle.rows.specs.States.{isPending}
+use Rattle.calls.specs.States.{isPending}
 use Rattle.tables.proofs.times.awaits.Statement.{statement}
 use Rattle.tables.proofs.times.awaits.Tie as tie
 
@@ -12,12 +12,6 @@ returns c = simp (ne-eqb _ _ (c .if1 .taken))
 returns-2 : tie.Need-returns-2
 returns-2 c = simp (eq-eqb _ _ (c .before .before .before .if1 .left), ne-eqb _ _ (c .if2 .taken))
 
-state-of-requires : tie.Need-state-of-requires
-state-of-requires c κs = search needs
-
-is-pending-requires : tie.Need-is-pending-requires
-is-pending-requires c κs = search needs
-
 returns-3 : tie.Need-returns-3
 returns-3 c =
     let lies = c .before .before in
@@ -26,4 +20,4 @@ returns-3 c =
 
 pub awaits-spec : {M : Type 1} → statement M
 awaits-spec =
-    tie.close (tie.spec returns returns-2 state-of-requires is-pending-requires returns-3)
+    tie.close (tie.spec returns returns-2 (λ c κs. search needs) (λ c κs. search needs) returns-3)

@@ -1,0 +1,4 @@
+-- What a program can ask of a desk, and the four states of a timestamp.
+pub mod States
+pub mod Calls
+pub mod Questions
