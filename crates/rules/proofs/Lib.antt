@@ -1,0 +1,19 @@
+-- What follows from the rules.
+pub mod Basis
+pub mod Laws
+pub mod Connections
+pub mod Ways
+pub mod Moved
+pub mod Order
+pub mod Seen
+pub mod Bounds
+pub mod OneList
+pub mod Made
+pub mod Stock
+pub mod One
+pub mod Accounts
+pub mod Gettable
+pub mod Swept
+pub mod Twice
+pub mod Total
+pub mod Deserted

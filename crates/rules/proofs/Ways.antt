@@ -1,0 +1,183 @@
+-- An accepted call changes a view in one of six ways, so a law of all calls has six cases. Assumes nothing.
+use Rattle.rules.proofs.Basis.{_≡_, refl, sym, subst, Bool, true, false, inl, inr, ⊎-elim, Dec·and, Dec·not-not, Dec·of-iff, none, some, Option·some-injective, Option·none-ne-some, ℕ, suc, _≤_, _<_, arith, le-refl, lt-of-not-le, State, Unseen, Open, Consumed, Which, Earliest, Latest}
+use Rattle.rules.proofs.Basis.{Named, Channel, NewThread, AttachInput, AttachOutput, Detach, End, Set, Put, Get, Consume, ConsumeUntil, Bound, Weak, Strong, Call, by, sweep, Passable, stateNumber}
+use Rattle.rules.specs.Claims.{Living, InOrder}
+use Rattle.rules.specs.Rules.{never, Connection, unused, output, input, View, withThread, withChannel, withConnection, owner, outputTo, KeepTime, stateOn, IsTime, VisibleTime, BoundOf, Takes, Outcome, Lowest, withItem, ended, swept, rule, NoneOf, Does, seenAs}
+use Rattle.rules.proofs.Connections.{Turned, Allowed, Waits, FitsIn, Turn, absent-done, reads, turned-freed, writes, turned-seen-as, turned-noticing, turned-raised, sees-first, seen-there, fits-seen-as, seen-above, fits-raised, freed, alike, opens, consumes}
+use Rattle.rules.proofs.Laws.{smallest-above, not-below, option-cases, smallest, at-elim, either, some-is, exists-below, state-is, smallest-one}
+
+-- ---- what is not refused
+
+-- a refusal that does not answer is not the case
+pub not-refused : {Case : Type 0} → ((value time : ℕ) → Case × (value ≡ 0) × (time ≡ 0) → ⊥) → Case → ⊥
+not-refused clear case = clear 0 0 (case, refl, refl)
+
+-- the lowest free number is inside its table, where 9 does not refuse
+free-inside : {Free : ℕ → Type 0} {number : ℕ} (places : ℕ) → Lowest Free number → (((n : ℕ) → n < places → Free n → ⊥) → ⊥) → number < places
+free-inside places low clear = lt-of-not-le (λ past. clear (λ n below free. low .1 n (omega arith) free))
+
+lives : (v : View) (thread : ℕ) → (v .thread thread ≡ none → ⊥) → Living (v .thread) thread
+lives v thread clear = option-cases (v .thread thread) (λ e. absurd (clear e)) (λ time e. (time, e))
+
+is-there : (b : Bool) → (b ≡ false → ⊥) → b ≡ true
+is-there true clear = refl
+is-there false clear = absurd (clear refl)
+
+-- where 7 does not refuse, the pair is free
+pub untaken : (v : View) (connection channel timestamp : ℕ) → (((c ticket : ℕ) × (outputTo (v .connection connection) ≡ some c) × (v .item c timestamp ≡ some ticket)) → ⊥)
+    → outputTo (v .connection connection) ≡ some channel → v .item channel timestamp ≡ none
+untaken v connection channel timestamp clear into = option-cases (v .item channel timestamp) (λ q. q) (λ was here. absurd (clear (channel, was, into, here)))
+
+-- ---- a connection of a view in order
+
+-- an owned one is inside its table, and its owner lives
+pub owned-fits : (v : View) (k thread : ℕ) (c : Connection) → FitsIn v k c → owner c ≡ some thread → (k < 32) × Living (v .thread) thread
+owned-fits v k thread unused f is = absurd (Option·none-ne-some thread is)
+owned-fits v k thread (output t c) f is = (f .0, subst (Living (v .thread)) (Option·some-injective t thread is) (f .1))
+owned-fits v k thread (input t c m s) f is = (f .0, subst (Living (v .thread)) (Option·some-injective t thread is) (f .1))
+
+written-exists : (v : View) (k channel : ℕ) (c : Connection) → FitsIn v k c → outputTo c ≡ some channel → v .channel channel ≡ true
+written-exists v k channel unused f is = absurd (Option·none-ne-some channel is)
+written-exists v k channel (output t c) f is = subst (λ (n : ℕ). v .channel n ≡ true) (Option·some-injective c channel is) (f .2)
+written-exists v k channel (input t c m s) f is = absurd (Option·none-ne-some channel is)
+
+-- one on which a timestamp waits
+pub record Waiting (v : View) (connection timestamp : ℕ) : Type 0 where
+  pub inside : connection < 32
+  pub thread : ℕ
+  pub living : Living (v .thread) thread
+  pub channel : ℕ
+  pub mark : ℕ
+  pub seen : ℕ → State
+  pub is : v .connection connection ≡ input thread channel mark seen
+  pub late : mark ≤ timestamp
+  pub ticket : ℕ
+  pub there : v .item channel timestamp ≡ some ticket
+
+pub waiting : (v : View) → InOrder v → (k timestamp : ℕ) → Waits (stateOn (v .connection k) timestamp) → Waiting v k timestamp
+waiting v o k timestamp w = go (v .connection k) refl (o .connections k) w
+  where
+    go : (c : Connection) → v .connection k ≡ c → FitsIn v k c → Waits (stateOn c timestamp) → Waiting v k timestamp
+    go unused e f w = absurd (absent-done w)
+    go (output t c) e f w = absurd (absent-done w)
+    go (input t c m s) e f w =
+        let (ticket, there) = seen-there (v .item c) m s (f .4) timestamp w in
+        let late = seen-above (v .item c) m s (f .4) timestamp w in
+        record { inside = f .0; thread = t; living = f .1; channel = c; mark = m; seen = s; is = e; late = late; ticket = ticket; there = there }
+
+-- ---- visible time
+
+pub visible-time : (v : View) → InOrder v → (thread : ℕ) → (visible : ℕ) × VisibleTime v thread visible
+visible-time v o thread = smallest _ (λ time. either (some-is time (v .thread thread)) (Dec·of-iff (λ (k, p). (k, p .0, p .1), λ (k, p, q). (k, (p, q)))
+    (exists-below (λ k. (owner (v .connection k) ≡ some thread) × (stateOn (v .connection k) time ≡ Open))
+    (λ k. Dec·and (some-is thread (owner (v .connection k))) (state-is Open (stateOn (v .connection k) time))) 32
+    (λ k p. owned-fits v k thread (v .connection k) (o .connections k) (p .0) .0))))
+
+-- where 6 does not refuse, a visible time allows the time
+pub allowed : (v : View) → InOrder v → (thread time : ℕ) → (((visible : ℕ) × VisibleTime v thread visible × (time < visible)) → ⊥) → Allowed v time
+allowed v o thread time clear = let (visible, is) = visible-time v o thread in (thread, visible, is, not-below (λ early. clear (visible, is, early)))
+
+-- ---- a time is at most every virtual time, and at most all that a bound is taken of besides
+
+abbrev pub Pending : Bound → Connection → ℕ → Type 0
+Pending Weak c time = KeepTime c time
+Pending Strong c time = Waits (stateOn c time)
+
+pub record Above (bound : Bound) (least : ℕ) (v : View) : Type 0 where
+  pub top : least ≤ never
+  pub times : (time : ℕ) → IsTime v time → least ≤ time
+  pub pends : (connection time : ℕ) → Pending bound (v .connection connection) time → least ≤ time
+
+-- so is each bound, and it is the greatest such time
+pub bound-above : {v : View} {least : ℕ} (bound : Bound) → BoundOf v bound least → Above bound least v
+bound-above Weak is = record { top = is .at-most-never; times = λ t q. is .at-most-each t (inl q); pends = λ k t q. is .at-most-each t (inr (k, q)) }
+bound-above Strong is = record { top = is .at-most-never; times = λ t q. is .at-most-each t (inl q); pends = λ k t q. is .at-most-each t (inr (k, q)) }
+
+pub above-bound : {v : View} {least now : ℕ} (bound : Bound) → Above bound least v → BoundOf v bound now → least ≤ now
+above-bound Weak a is = smallest-above is (a .top) (λ t. ⊎-elim (a .times t) (λ (k, q). a .pends k t q))
+above-bound Strong a is = smallest-above is (a .top) (λ t. ⊎-elim (a .times t) (λ (k, q). a .pends k t q))
+
+-- there is one
+pub bound-one : (v : View) (bound : Bound) (a b : ℕ) → BoundOf v bound a → BoundOf v bound b → a ≡ b
+bound-one v Weak a b = smallest-one
+bound-one v Strong a b = smallest-one
+
+-- what waits is not below its mark
+pub above-waits : {v : View} {least : ℕ} → InOrder v → (bound : Bound) → Above bound least v → Above Strong least v
+above-waits o Strong a = a
+above-waits {v} o Weak a = record { top = a .top; times = a .times; pends = λ k t q. (let w = waiting v o k t q in omega (arith, w .late, a .pends k (w .mark) (rw (w .is)))) }
+
+pub above-allowed : {v : View} {least : ℕ} → Above Strong least v → (time : ℕ) → Allowed v time → least ≤ time
+above-allowed {v} {least} a time (thread, visible, is, late) =
+    let low : least ≤ visible = smallest-above is (a .top) (λ t. ⊎-elim (λ q. a .times t (thread, q)) (λ (k, own, opened). a .pends k t (inr opened))) in
+    omega arith
+
+pub takes-fits : (which : Which) (Fits : ℕ → Type 0) (timestamp : ℕ) → Takes which Fits timestamp → Fits timestamp
+takes-fits which Fits timestamp = elim which [ Earliest ↦ λ takes. takes .0 | Latest ↦ λ takes. takes .0 | Named name ↦ λ takes. takes .0 ]
+
+-- ---- the six ways
+
+pub data Kind (v : View) : View → Type 0 where
+  makes : (number : ℕ) → number < 8 → Kind v (withChannel v number)
+  sets : (number time : ℕ) → number < 16 → time ≤ never → Allowed v time → Kind v (withThread v number (some time))
+  changes : (number : ℕ) (new : Connection) → FitsIn v number new → Turned v (v .connection number) new → Kind v (withConnection v number new)
+  ends : (thread : ℕ) → Kind v (ended v thread)
+  stocks : (channel timestamp ticket : ℕ) → v .channel channel ≡ true → timestamp < never → Allowed v timestamp → v .item channel timestamp ≡ none
+      → Kind v (withItem v channel timestamp ticket)
+  sweeps : (bound : ℕ) → Above Strong bound v → Kind v (swept v bound)
+
+module _ (v : View) (o : InOrder v) where
+  abbrev Goal : Outcome → Type 0
+  Goal out = Kind v (out .view)
+
+  attach-kind : (number : ℕ) (c : Connection) → v .connection number ≡ unused → FitsIn v number c → Turned v unused c → Kind v (withConnection v number c)
+  attach-kind number c free fits turned = changes number c fits (subst (λ (x : Connection). Turned v x c) (sym free) turned)
+
+  sees-kind : (number timestamp : ℕ) (state : State) → 0 < stateNumber state → Waits (stateOn (v .connection number) timestamp)
+      → Turn v timestamp (stateOn (v .connection number) timestamp) state → Kind v (withConnection v number (seenAs state timestamp (v .connection number)))
+  sees-kind number timestamp state there waits turn =
+      changes number _ (fits-seen-as v number state timestamp there (v .connection number) waits (o .connections number)) (turned-seen-as v state timestamp (v .connection number) turn)
+
+  pub accepted-kind : (call : Call) → Passable call → NoneOf (rule v call .refusals) → (out : Outcome) → rule v call .Accepts out → Goal out
+  accepted-kind (by thread Channel) fits clear out (number, low, e) = subst Goal (sym e) (makes number (free-inside 8 low (not-refused (clear .1 .0))))
+  accepted-kind (by thread (NewThread time)) fits clear out (number, low, e) =
+      subst Goal (sym e) (sets number time (free-inside 16 low (not-refused (clear .1 .1 .0))) (omega (arith, fits .1)) (allowed v o thread time (not-refused (clear .1 .0))))
+  accepted-kind (by thread (AttachInput channel)) fits clear out (number, visible, low, is, e) = subst Goal (sym e) (attach-kind number _ (low .0)
+      (free-inside 32 low (not-refused (clear .1 .1 .0)), lives v thread (not-refused (clear .0)), is-there (v .channel channel) (not-refused (clear .1 .0)), is .at-most-never, sees-first (v .item channel) visible)
+      (reads thread channel visible (thread, visible, is, le-refl visible)))
+  accepted-kind (by thread (AttachOutput channel)) fits clear out (number, low, e) = subst Goal (sym e) (attach-kind number _ (low .0)
+      (free-inside 32 low (not-refused (clear .1 .1 .0)), lives v thread (not-refused (clear .0)), is-there (v .channel channel) (not-refused (clear .1 .0))) (writes thread channel))
+  accepted-kind (by thread (Detach connection)) fits clear out e = subst Goal (sym e) (changes connection unused tt (freed (v .connection connection)))
+  accepted-kind (by thread End) fits clear out e = subst Goal (sym e) (ends thread)
+  accepted-kind (by thread (Set time)) fits clear out e =
+      let (was, is) = lives v thread (not-refused (clear .0)) in
+      subst Goal (sym e) (sets thread time (o .threads thread was is .0) (omega (arith, fits .1)) (allowed v o thread time (not-refused (clear .1 .0))))
+  accepted-kind (by thread (Put connection timestamp ticket)) fits clear out (channel, into, e) = subst Goal (sym e) (stocks channel timestamp ticket
+      (written-exists v connection channel (v .connection connection) (o .connections connection) into)
+      (lt-of-not-le (not-refused (clear .1 .1 .1 .0))) (allowed v o thread timestamp (not-refused (clear .1 .1 .1 .1 .0)))
+      (untaken v connection channel timestamp (not-refused (clear .1 .1 .1 .1 .1 .0)) into))
+  accepted-kind (by thread (Get connection which)) fits clear out (channel, timestamp, ticket, from, takes, there, e) =
+      let unseen : stateOn (v .connection connection) timestamp ≡ Unseen = takes-fits which _ timestamp takes in
+      subst Goal (sym e) (sees-kind connection timestamp Open (omega arith) (inl unseen) (rw unseen opens))
+  accepted-kind (by thread (Consume connection timestamp)) fits clear out e =
+      let is-open = Dec·not-not (state-is Open (stateOn (v .connection connection) timestamp)) .0 (not-refused (clear .1 .1 .1 .1 .0)) in
+      subst Goal (sym e) (sees-kind connection timestamp Consumed (omega arith) (inr is-open) (consumes _))
+  accepted-kind (by thread (ConsumeUntil connection timestamp)) fits clear out e = subst Goal (sym e) (changes connection _
+      (fits-raised v connection (v .item) (suc timestamp) (lt-of-not-le (not-refused (clear .1 .1 .1 .0))) (λ c t over. refl) (v .connection connection) (o .connections connection))
+      (turned-raised v (suc timestamp) (v .connection connection)))
+  accepted-kind (sweep bound slice) fits clear out (time, items, is, those, e) = subst Goal (sym e) (sweeps time (above-waits o bound (bound-above bound is)))
+
+-- so what holds of a view and of what the six ways make of it holds after every call
+pub by-kind : (v : View) → InOrder v → (P : View → Type 0) → P v → ((w : View) → Kind v w → P w) → (call : Call) → Passable call → (out : Outcome) → Does v call out → P (out .view)
+by-kind v o P here each call fits out (inl (refused, view, lent)) = subst P (sym view) here
+by-kind v o P here each call fits out (inr (clear, accepts)) = each (out .view) (accepted-kind v o call fits clear out accepts)
+
+-- in every one of them each connection changes as a connection may
+pub kind-turned : (v w : View) → Kind v w → (k : ℕ) → Turned v (v .connection k) (w .connection k)
+kind-turned v w (makes number inside) k = alike (v .connection k)
+kind-turned v w (sets number time inside top may) k = alike (v .connection k)
+kind-turned v w (changes number new fits turned) k = at-elim (Turned v (v .connection k)) (v .connection) number new k
+    (λ e. subst (λ (n : ℕ). Turned v (v .connection n) new) (sym e) turned) (λ ne. alike (v .connection k))
+kind-turned v w (ends thread) k = turned-freed v thread (v .connection k)
+kind-turned v w (stocks channel timestamp ticket exists early may lacks) k = turned-noticing v channel timestamp may (v .connection k)
+kind-turned v w (sweeps bound above) k = turned-raised v bound (v .connection k)

@@ -1,0 +1,81 @@
+-- Runs: the calls that a program can make, the replies that it gets, and what it could still get. Assumes nothing.
+use mathlib.Core.Path.{_≡_}
+use mathlib.Core.Bool.{Bool, false, cond, _&&_}
+use mathlib.Core.List.{List, [], _∷_}
+use mathlib.Core.Option.{some}
+use Prim.Native.Nat.{ℕ, _+_}
+use lib.Dec.{eqb}
+use Rattle.calls.specs.declared.Which.{Which}
+use Rattle.calls.specs.Calls.{Call, get, isPut, isSweep, Passable}
+use Rattle.calls.specs.Questions.{Question, Request, make, ask}
+use Rattle.rules.specs.Rules.{View, freshView, inputFrom, Item, Outcome, Does, Says}
+
+-- any calls, refused ones and sweeps with slices of any length included
+pub data Calls : View → View → Type 0 where
+  stop : {v : View} → Calls v v
+  next : {v w : View} (call : Call) (o : Outcome) → Passable call → Does v call o → Calls (o .view) w → Calls v w
+
+-- "From a fresh desk, after any calls"
+abbrev pub Reachable : View → Type 0
+Reachable v = Calls freshView v
+
+-- "further run of accepted calls other than sweeps"
+pub data Further : View → View → Type 0 where
+  stop : {v : View} → Further v v
+  next : {v w : View} (call : Call) (o : Outcome) → Passable call → isSweep call ≡ false → Does v call o → o .code ≡ 0 → Further (o .view) w → Further v w
+
+-- some further run leads to a get that is accepted and answers this very item: through a connection to its channel, with its timestamp and its ticket.
+-- Any thread that then lives may make the get: one "now living or yet to be created".
+pub record CouldBeGot (v : View) (item : Item) : Type 0 where
+  pub later : View
+  pub run : Further v later
+  pub thread : ℕ
+  pub connection : ℕ
+  pub which : Which
+  pub outcome : Outcome
+  pub passable : Passable (get thread connection which)
+  pub does : Does later (get thread connection which) outcome
+  pub accepted : outcome .code ≡ 0
+  pub channel : inputFrom (later .connection connection) ≡ some (item .channel)
+  pub timestamp : outcome .time ≡ item .timestamp
+  pub ticket : outcome .value ≡ item .ticket
+
+-- ---- what a program sees: the answer to each call and question, and the slice that it lent
+
+pub record Reply : Type 0 where
+  pub code : ℕ
+  pub value : ℕ
+  pub time : ℕ
+  pub slice : List ℕ
+
+abbrev pub replyOf : Outcome → Reply
+replyOf o = record { code = o .code; value = o .value; time = o .time; slice = o .slice }
+
+abbrev pub told : ℕ → ℕ → ℕ → Reply
+told code value time = record { code = code; value = value; time = time; slice = [] }
+
+-- these are the replies to these calls and questions, one after the other, and this is the view after them; a question is "without effect"
+pub data Gives : View → List Request → List Reply → View → Type 0 where
+  stop : {v : View} → Gives v [] [] v
+  called : {v w : View} {call : Call} {requests : List Request} {replies : List Reply} (o : Outcome) → Does v call o → Gives (o .view) requests replies w
+      → Gives v (make call ∷ requests) (replyOf o ∷ replies) w
+  questioned : {v w : View} {question : Question} {requests : List Request} {replies : List Reply} (code value time : ℕ) → Says v question code value time
+      → Gives v requests replies w → Gives v (ask question ∷ requests) (told code value time ∷ replies) w
+
+-- ---- the accounts, "both taken from the answers"
+
+abbrev pub ifAccepted : Reply → Bool → ℕ → ℕ
+ifAccepted reply counts number = cond (eqb (reply .code) 0 && counts) number 0
+
+unfoldable pub acceptedPuts : List Request → List Reply → ℕ
+acceptedPuts [] replies = 0
+acceptedPuts (request ∷ requests) [] = 0
+acceptedPuts (make call ∷ requests) (reply ∷ replies) = ifAccepted reply (isPut call) 1 + acceptedPuts requests replies
+acceptedPuts (ask question ∷ requests) (reply ∷ replies) = acceptedPuts requests replies
+
+-- the tickets that accepted sweeps handed back, by the values of their answers
+unfoldable pub ticketsBack : List Request → List Reply → ℕ
+ticketsBack [] replies = 0
+ticketsBack (request ∷ requests) [] = 0
+ticketsBack (make call ∷ requests) (reply ∷ replies) = ifAccepted reply (isSweep call) (reply .value) + ticketsBack requests replies
+ticketsBack (ask question ∷ requests) (reply ∷ replies) = ticketsBack requests replies
