@@ -1,0 +1,23 @@
+-- The desk obeys the rules.
+pub mod Basis
+pub mod Reached
+pub mod Words
+pub mod Folds
+pub mod Chosen
+pub mod Lookup
+pub mod Seen
+pub mod Bounds
+pub mod Order
+pub mod Frame
+pub mod Listed
+pub mod Found
+pub mod Agreed
+pub mod Rows
+pub mod Effects
+pub mod Stock
+pub mod Sweep
+pub mod Does
+pub mod Fresh
+pub mod Said
+pub mod Obeys
+pub mod Examples

@@ -1,0 +1,1 @@
+// That the desk obeys the rules: definitions and proofs alone, no code.
