@@ -1,6 +1,7 @@
 """Checks what the desk for Python refuses before it makes a call, and that the library is looked for where it is said."""
 
 import os
+import shlex
 import subprocess
 import sys
 import threading
@@ -135,8 +136,10 @@ class Threads(unittest.TestCase):
 
 class Library(unittest.TestCase):
     def test_missing(self):
+        # PYTHON_COMMAND is set where this Python runs under an emulator.
+        python = shlex.split(os.environ.get("PYTHON_COMMAND", shlex.quote(sys.executable)))
         result = subprocess.run(
-            [sys.executable, "-c", "import desk"],
+            [*python, "-c", "import desk"],
             cwd=os.path.dirname(os.path.abspath(__file__)),
             env={**os.environ, "DESK_LIBRARY": "no-such/libdesk.so"},
             capture_output=True,
