@@ -14,7 +14,7 @@ pub data Call : Type 0 where
   by : (thread : ℕ) (deed : Deed) → Call
   sweep : (bound : Bound) (slice : List ℕ) → Call
 
--- ---- the calls under the names of 01's table, with their numbers in its order
+-- ---- the calls under the names of 01's table, with their numbers in its order; its "channel" is `new-channel` here and its "set" is `set-time`
 
 abbrev pub new-channel : (thread : ℕ) → Call
 new-channel thread = by thread Channel

@@ -1,11 +1,20 @@
 -- The desk's replies are those of the rules, and what holds of every run under the rules holds of the desk. Assumes nothing.
-use Rattle.obeys.proofs.Basis.{subst, List, [], _∷_, AllPassable, Call, sweep, PassableRequests, Request, ask, items-present, make, Strong, after, step, fresh, Desk, View, freshView, DeskAccountsBalance, DeskBounds}
+use Rattle.obeys.proofs.Basis.{subst, List, [], _∷_, AllPassable, Call, sweep, PassableRequests, Request, ask, items-present, make, Bound, Strong, Weak, never, ℕ, boundOf, after, step, fresh, Desk, View, freshView, DeskAccountsBalance, DeskBounds}
 use Rattle.obeys.proofs.Basis.{DeskBoundsNeverFall, DeskGives, DeskGivesAlone, DeskSweepsExactly, ReachedReachable, Reached, deskAfter, outcomeOf, repliesOf, viewOf}
+use Rattle.calls.specs.Calls.{put}
+use Rattle.rules.specs.Rules.{Item}
 use Rattle.rules.specs.Runs.{Calls, stop, next, Gives}
+use Rattle.rules.specs.Claims.{HandsBack, PutBy}
 use Rattle.rules.proofs.One.{gives-once}
 use Rattle.rules.proofs.Bounds.{bounds-never-fall}
 use Rattle.rules.proofs.Accounts.{accounts-balance}
-use Rattle.rules.proofs.Swept.{swept-exactly-the-unreachable}
+use Rattle.rules.proofs.Swept.{swept-exactly-the-unreachable, weakly-swept-only-the-unreachable}
+use Rattle.rules.proofs.Ways.{bound-one}
+use Rattle.rules.proofs.Deserted.{never-without-threads, refused-without-threads}
+use Rattle.rules.proofs.Seen.{seen-moves-forward}
+use Rattle.rules.proofs.Twice.{no-pair-twice}
+use Rattle.obeys.specs.Claims.{DeskHandsBack, PutAccepted, DeskSweepsOnly, DeskNeverWithoutThreads, DeskRefusedWithoutThreads, DeskMovesForward, DeskNoPairTwice}
+use Rattle.obeys.proofs.Lookup.{dead-view}
 use Rattle.obeys.proofs.Reached.{reached-step, reached-after, fresh-reached}
 use Rattle.obeys.proofs.Order.{every-desk-in-order}
 use Rattle.obeys.proofs.Bounds.{bound-is}
@@ -46,17 +55,6 @@ reached-reachable d r =
 
 -- ---- each claim in a line
 
-pub desk-sweeps-exactly : DeskSweepsExactly
-desk-sweeps-exactly d r =
-    let exactly = swept-exactly-the-unreachable (viewOf d) (reached-reachable d r) in
-    record {
-      items = exactly .items;
-      in-line = exactly .hands-back .in-line;
-      exactly = exactly .exactly;
-      kept = exactly .kept;
-      hands-back = λ slice fits enough. exactly .hands-back .long slice enough (outcomeOf d (sweep Strong slice)) (desk-does d r (sweep Strong slice) fits);
-    }
-
 pub desk-bounds : DeskBounds
 desk-bounds d r = bound-is d (every-desk-in-order d r)
 
@@ -64,6 +62,65 @@ pub desk-bounds-never-fall : DeskBoundsNeverFall
 desk-bounds-never-fall d r calls all bound =
     bounds-never-fall (viewOf d) (viewOf (after d calls)) (reached-reachable d r) (calls-from d r calls all) bound _ _ (desk-bounds d r bound)
     (desk-bounds (after d calls) (reached-after d r calls all) bound)
+
+-- what a sweep hands back under the rules, the code hands back
+desk-hands-back : (d : Desk) → Reached d → (bound : Bound) (items : List Item) → HandsBack (viewOf d) bound items → DeskHandsBack d bound items
+desk-hands-back d r bound items handed = record {
+  in-line = handed .in-line;
+  long = λ slice fits enough. handed .long slice enough (outcomeOf d (sweep bound slice)) (desk-does d r (sweep bound slice) fits);
+  short = λ slice fits few. handed .short slice few (outcomeOf d (sweep bound slice)) (desk-does d r (sweep bound slice) fits);
+}
+
+pub desk-sweeps-exactly : DeskSweepsExactly
+desk-sweeps-exactly d r =
+    let swept = swept-exactly-the-unreachable (viewOf d) (reached-reachable d r) in
+    record { items = swept .items; hands-back = desk-hands-back d r Strong (swept .items) (swept .hands-back); exactly = swept .exactly; kept = swept .kept }
+
+pub desk-sweeps-only : DeskSweepsOnly
+desk-sweeps-only d r =
+    let swept = weakly-swept-only-the-unreachable (viewOf d) (reached-reachable d r) in
+    record {
+      items = swept .items;
+      hands-back = desk-hands-back d r Weak (swept .items) (swept .hands-back);
+      below = swept .below (boundOf d Weak) (desk-bounds d r Weak);
+      only = swept .only;
+    }
+
+pub desk-never-without-threads : DeskNeverWithoutThreads
+desk-never-without-threads d r dead bound =
+    bound-one (viewOf d) bound (boundOf d bound) never (desk-bounds d r bound) (never-without-threads (viewOf d) (reached-reachable d r) (λ t. dead-view d t (dead t)) bound)
+
+pub desk-refused-without-threads : DeskRefusedWithoutThreads
+unfolding outcomeOf
+desk-refused-without-threads d r dead calls all call fits quiet =
+    let told = refused-without-threads (viewOf d) (viewOf (after d calls)) (λ t. dead-view d t (dead t)) (calls-from d r calls all) call quiet
+    (outcomeOf (after d calls) call) (desk-does (after d calls) (reached-after d r calls all) call fits) in
+    λ i. record { code = told .0 i; value = told .1 i; time = told .2 i }
+
+pub desk-moves-forward : DeskMovesForward
+unfolding outcomeOf
+desk-moves-forward d r call fits = seen-moves-forward (viewOf d) (reached-reachable d r) call fits (outcomeOf d call) (desk-does d r call fits)
+
+put-by : (d : Desk) → Reached d → (channel thread connection timestamp ticket : ℕ) → PutAccepted d channel thread connection timestamp ticket
+    → PutBy (viewOf d) channel timestamp ticket (outcomeOf d (put thread connection timestamp ticket))
+unfolding outcomeOf
+put-by d r channel thread connection timestamp ticket (fits, ok, into) = record {
+  thread = thread;
+  connection = connection;
+  passable = fits;
+  does = desk-does d r (put thread connection timestamp ticket) fits;
+  accepted = ok;
+  into = into;
+}
+
+pub desk-no-pair-twice : DeskNoPairTwice
+unfolding outcomeOf
+desk-no-pair-twice d r calls all channel timestamp thread connection ticket thread′ connection′ ticket′ first again =
+    let between = reached-step d r (put thread connection timestamp ticket) (first .0) in
+    let later = after (step d (put thread connection timestamp ticket) .desk) calls in
+    no-pair-twice (viewOf d) (viewOf later) (reached-reachable d r) channel timestamp ticket ticket′ (outcomeOf d (put thread connection timestamp ticket))
+    (outcomeOf later (put thread′ connection′ timestamp ticket′)) (put-by d r channel thread connection timestamp ticket first) (calls-from _ between calls all)
+    (put-by later (reached-after _ between calls all) channel thread′ connection′ timestamp ticket′ again)
 
 requests-reached : (d : Desk) → Reached d → (requests : List Request) → PassableRequests requests → Reached (deskAfter d requests)
 unfolding deskAfter

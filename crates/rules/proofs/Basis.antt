@@ -19,5 +19,5 @@ pub use Rattle.calls.specs.declared.Deed.{Deed}
 pub use Rattle.calls.specs.declared.Deed.the-variants.{Channel, NewThread, AttachInput, AttachOutput, Detach, End, Set, Put, Get, Consume, ConsumeUntil}
 pub use Rattle.calls.specs.declared.Bound.{Bound}
 pub use Rattle.calls.specs.declared.Bound.the-variants.{Weak, Strong}
-pub use Rattle.calls.specs.Calls.{Call, by, sweep, put, get, consume, attach-input, detach, end, isPut, isPutDeed, isSweep, sliceOf, Passable}
+pub use Rattle.calls.specs.Calls.{Call, by, sweep, put, get, consume, attach-input, detach, end, isPut, isPutDeed, isSweep, sliceOf, Ticket, Passable}
 pub use Rattle.calls.specs.States.{stateNumber}

@@ -40,7 +40,7 @@ kind-times v w (sets number new inside top may) time (t, is) = at-elim (λ s. s 
 kind-times v w (changes number new fits turned) time is = inl is
 kind-times v w (ends thread) time (t, is) =
     at-elim (λ s. s ≡ some time → IsTime v time ⊎ Allowed v time) (v .thread) thread none t (λ e q. absurd (Option·none-ne-some time q)) (λ ne q. inl (t, q)) is
-kind-times v w (stocks channel timestamp ticket exists early may lacks) time is = inl is
+kind-times v w (stocks channel timestamp ticket exists early carried may lacks) time is = inl is
 kind-times v w (sweeps bound above) time is = inl is
 
 -- ---- so a time that is at most all of which a bound is the smallest stays so over every call

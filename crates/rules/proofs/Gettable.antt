@@ -2,7 +2,7 @@
 use Rattle.rules.proofs.Basis.{_≡_, _∙_, refl, sym, ap, subst, false, true≢false, [], _⊎_, inl, inr, ⊎-elim, by-cases, some, Option·none-ne-some, ℕ, _≤_, _<_, ℕ-discrete, arith, le-ltb, Unseen, Open, Which, Named, Strong, Call, get, attach-input, detach, isSweep, Passable}
 use Rattle.rules.specs.Claims.{Living, InOrder, GetsWhatIsPresent}
 use Rattle.rules.specs.Rules.{Connection, unused, output, input, View, withConnection, owner, inputFrom, stateOn, seenAs, firstSeen, VisibleTime, StrongBound, Item, IsPresent, FreeConnection, Outcome, done, Lowest, rule, NoneOf, at, Does}
-use Rattle.rules.specs.Runs.{Further, stop, next, CouldBeGot, Calls}
+use Rattle.rules.specs.Runs.{Further, CouldBeGot, Calls}
 use Rattle.rules.proofs.Bounds.{above-calls}
 use Rattle.rules.proofs.Connections.{Waits}
 use Rattle.rules.proofs.Laws.{_and_, at-other, not-none, Found, some-one, at-same, search-below}

@@ -1,5 +1,5 @@
 -- Every view that calls reach is in order: the fresh one is, and each of the six ways keeps it so. Assumes nothing.
-use Rattle.rules.proofs.Basis.{_≡_, _∙_, refl, sym, ap, subst, true, cond, true≢false, none, some, Option·none-ne-some, ℕ, _≤_, _<_, arith, ltb, le-ltb, Call, Passable}
+use Rattle.rules.proofs.Basis.{_≡_, _∙_, refl, sym, ap, subst, true, cond, true≢false, none, some, Option·none-ne-some, ℕ, _≤_, _<_, arith, ltb, le-ltb, Call, Ticket, Passable}
 use Rattle.rules.specs.Claims.{InOrder, EveryViewInOrder}
 use Rattle.rules.specs.Rules.{never, View, at, freshView, Outcome, Does}
 use Rattle.rules.specs.Runs.{Calls, stop, next}
@@ -14,7 +14,7 @@ kind-in-order v o w (makes number inside) =
       threads = o .threads;
       channels = λ c. at-elim (λ b. b ≡ true → c < 8) (v .channel) number true c (λ e h. omega arith) (λ ne. o .channels c);
       connections = λ k. fits-on v k (v .thread) (at (v .channel) number true) (v .connection k) (λ t own l. l) more (o .connections k);
-      items = λ c t n h. (more c (o .items c t n h .0), o .items c t n h .1);
+      items = λ c t n h. (let (there, early, carried) = o .items c t n h in (more c there, early, carried));
     }
 kind-in-order v o w (sets number time inside top may) = record {
   threads = λ t x. at-elim (λ s. s ≡ some x → (t < 16) × (x ≤ never)) (v .thread) number (some time) t
@@ -36,18 +36,18 @@ kind-in-order v o w (ends thread) = record {
   connections = λ k. fits-freed v k thread (v .connection k) (o .connections k);
   items = o .items;
 }
-kind-in-order v o w (stocks channel timestamp ticket exists early may lacks) = record {
+kind-in-order v o w (stocks channel timestamp ticket exists early carried may lacks) = record {
   threads = o .threads;
   channels = o .channels;
   connections = λ k. fits-noticing v k channel timestamp ticket (v .connection k) (o .connections k);
-  items = λ c t n. item-elim (λ i. i ≡ some n → (v .channel c ≡ true) × (t < never)) v channel timestamp ticket c t
-      (λ same when h. (ap (v .channel) same ∙ exists, omega arith)) (o .items c t n);
+  items = λ c t n. item-elim (λ i. i ≡ some n → (v .channel c ≡ true) × (t < never) × Ticket n) v channel timestamp ticket c t
+      (λ same when h. (let q : ticket ≡ n = cc in (ap (v .channel) same ∙ exists, omega arith, subst Ticket q carried))) (o .items c t n);
 }
 kind-in-order v o w (sweeps bound above) = record {
   threads = o .threads;
   channels = o .channels;
   connections = λ k. fits-raised v k (λ c t. cond (ltb t bound) none (v .item c t)) bound (above .top) (λ c t over. rw (le-ltb t bound over)) (v .connection k) (o .connections k);
-  items = λ c t n. below-elim (λ i. i ≡ some n → (v .channel c ≡ true) × (t < never)) t bound none (v .item c t)
+  items = λ c t n. below-elim (λ i. i ≡ some n → (v .channel c ≡ true) × (t < never) × Ticket n) t bound none (v .item c t)
       (λ under h. absurd (Option·none-ne-some n h)) (λ over. o .items c t n);
 }
 

@@ -24,7 +24,7 @@ place-kind v w (makes number inside) channel timestamp = inl refl
 place-kind v w (sets number time inside top may) channel timestamp = inl refl
 place-kind v w (changes number new fits turned) channel timestamp = inl refl
 place-kind v w (ends thread) channel timestamp = inl refl
-place-kind v w (stocks c n t exists early may lacks) channel timestamp =
+place-kind v w (stocks c n t exists early carried may lacks) channel timestamp =
     item-elim (λ i. (i ≡ v .item channel timestamp) ⊎ (((v .item channel timestamp ≡ none) × Allowed v timestamp) ⊎ ((i ≡ none) × Above Strong (suc timestamp) v))) v c n t channel timestamp
     (λ same when. inr (inl (ap₂ (v .item) same when ∙ lacks, subst (Allowed v) (sym when) may))) (inl refl)
 place-kind v w (sweeps bound above) channel timestamp =

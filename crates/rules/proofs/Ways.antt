@@ -1,6 +1,6 @@
 -- An accepted call changes a view in one of six ways, so a law of all calls has six cases. Assumes nothing.
 use Rattle.rules.proofs.Basis.{_≡_, refl, sym, subst, Bool, true, false, inl, inr, ⊎-elim, Dec·and, Dec·not-not, Dec·of-iff, none, some, Option·some-injective, Option·none-ne-some, ℕ, suc, _≤_, _<_, arith, le-refl, lt-of-not-le, State, Unseen, Open, Consumed, Which, Earliest, Latest}
-use Rattle.rules.proofs.Basis.{Named, Channel, NewThread, AttachInput, AttachOutput, Detach, End, Set, Put, Get, Consume, ConsumeUntil, Bound, Weak, Strong, Call, by, sweep, Passable, stateNumber}
+use Rattle.rules.proofs.Basis.{Named, Channel, NewThread, AttachInput, AttachOutput, Detach, End, Set, Put, Get, Consume, ConsumeUntil, Bound, Weak, Strong, Call, by, sweep, Ticket, Passable, stateNumber}
 use Rattle.rules.specs.Claims.{Living, InOrder}
 use Rattle.rules.specs.Rules.{never, Connection, unused, output, input, View, withThread, withChannel, withConnection, owner, outputTo, KeepTime, stateOn, IsTime, VisibleTime, BoundOf, Takes, Outcome, Lowest, withItem, ended, swept, rule, NoneOf, Does, seenAs}
 use Rattle.rules.proofs.Connections.{Turned, Allowed, Waits, FitsIn, Turn, absent-done, reads, turned-freed, writes, turned-seen-as, turned-noticing, turned-raised, sees-first, seen-there, fits-seen-as, seen-above, fits-raised, freed, alike, opens, consumes}
@@ -122,7 +122,7 @@ pub data Kind (v : View) : View → Type 0 where
   sets : (number time : ℕ) → number < 16 → time ≤ never → Allowed v time → Kind v (withThread v number (some time))
   changes : (number : ℕ) (new : Connection) → FitsIn v number new → Turned v (v .connection number) new → Kind v (withConnection v number new)
   ends : (thread : ℕ) → Kind v (ended v thread)
-  stocks : (channel timestamp ticket : ℕ) → v .channel channel ≡ true → timestamp < never → Allowed v timestamp → v .item channel timestamp ≡ none
+  stocks : (channel timestamp ticket : ℕ) → v .channel channel ≡ true → timestamp < never → Ticket ticket → Allowed v timestamp → v .item channel timestamp ≡ none
       → Kind v (withItem v channel timestamp ticket)
   sweeps : (bound : ℕ) → Above Strong bound v → Kind v (swept v bound)
 
@@ -154,7 +154,7 @@ module _ (v : View) (o : InOrder v) where
       subst Goal (sym e) (sets thread time (o .threads thread was is .0) (omega (arith, fits .1)) (allowed v o thread time (not-refused (clear .1 .0))))
   accepted-kind (by thread (Put connection timestamp ticket)) fits clear out (channel, into, e) = subst Goal (sym e) (stocks channel timestamp ticket
       (written-exists v connection channel (v .connection connection) (o .connections connection) into)
-      (lt-of-not-le (not-refused (clear .1 .1 .1 .0))) (allowed v o thread timestamp (not-refused (clear .1 .1 .1 .1 .0)))
+      (lt-of-not-le (not-refused (clear .1 .1 .1 .0))) (fits .1 .2) (allowed v o thread timestamp (not-refused (clear .1 .1 .1 .1 .0)))
       (untaken v connection channel timestamp (not-refused (clear .1 .1 .1 .1 .1 .0)) into))
   accepted-kind (by thread (Get connection which)) fits clear out (channel, timestamp, ticket, from, takes, there, e) =
       let unseen : stateOn (v .connection connection) timestamp ≡ Unseen = takes-fits which _ timestamp takes in
@@ -179,5 +179,5 @@ kind-turned v w (sets number time inside top may) k = alike (v .connection k)
 kind-turned v w (changes number new fits turned) k = at-elim (Turned v (v .connection k)) (v .connection) number new k
     (λ e. subst (λ (n : ℕ). Turned v (v .connection n) new) (sym e) turned) (λ ne. alike (v .connection k))
 kind-turned v w (ends thread) k = turned-freed v thread (v .connection k)
-kind-turned v w (stocks channel timestamp ticket exists early may lacks) k = turned-noticing v channel timestamp may (v .connection k)
+kind-turned v w (stocks channel timestamp ticket exists early carried may lacks) k = turned-noticing v channel timestamp may (v .connection k)
 kind-turned v w (sweeps bound above) k = turned-raised v bound (v .connection k)

@@ -12,7 +12,7 @@ use Rattle.calls.specs.declared.State.the-variants.{Absent, Open, Consumed}
 use Rattle.calls.specs.declared.Which.{Which}
 use Rattle.calls.specs.declared.Bound.{Bound}
 use Rattle.calls.specs.declared.Bound.the-variants.{Weak, Strong}
-use Rattle.calls.specs.Calls.{Call, sweep, detach, end, put, get, consume, isSweep, sliceOf, Passable}
+use Rattle.calls.specs.Calls.{Call, sweep, detach, end, put, get, consume, isSweep, sliceOf, Ticket, Passable}
 use Rattle.calls.specs.Questions.{Question, items-present, Request}
 use Rattle.calls.specs.States.{stateNumber}
 use Rattle.rules.specs.Rules.{never, Connection, unused, output, input, View, freshView, owner, outputTo, inputFrom, KeepTime, stateOn, WeakBound, StrongBound, BoundOf, Item, IsPresent, _∈_, InLine, Listed, tickets, Outcome, Does, Says}
@@ -175,12 +175,12 @@ Fits threads channels items number (input thread channel mark seen) =
     (number < 32) × Living threads thread × (channels channel ≡ true) × (mark ≤ never) × Sees (items channel) mark seen
 
 -- "Threads 16 (0..15), channels 8 (0..7), connections 32 (0..31)": no number is past its table's end, no time past never; a connection's thread lives and
--- its channel exists, and so does an item's; never is no timestamp
+-- its channel exists, and so does an item's; never is no timestamp; a ticket is a "64-bit unsigned number"
 pub record InOrder (v : View) : Type 0 where
   pub threads : (thread time : ℕ) → v .thread thread ≡ some time → (thread < 16) × (time ≤ never)
   pub channels : (channel : ℕ) → v .channel channel ≡ true → channel < 8
   pub connections : (connection : ℕ) → Fits (v .thread) (v .channel) (v .item) connection (v .connection connection)
-  pub items : (channel timestamp ticket : ℕ) → v .item channel timestamp ≡ some ticket → (v .channel channel ≡ true) × (timestamp < never)
+  pub items : (channel timestamp ticket : ℕ) → v .item channel timestamp ≡ some ticket → (v .channel channel ≡ true) × (timestamp < never) × Ticket ticket
 
 -- `every-view-in-order`
 abbrev pub EveryViewInOrder : Type 0
