@@ -5,7 +5,7 @@ use mathlib.Core.List.{List, [], _∷_}
 use Prim.Native.Nat.{ℕ, _+_}
 use lib.Dec.{eqb, leb, ltb}
 use lib.ListN.{length, set}
-use Rattle.words.specs.Words.{with, without, less, lowestFree, count}
+use Rattle.words.specs.Words.{with, without, except, lowestFree, count}
 use Rattle.rows.specs.declared.Connection.{Connection}
 use Rattle.rows.specs.declared.Item.{Item}
 use Rattle.calls.specs.declared.Bound.{Bound}
@@ -24,7 +24,7 @@ use Rattle.rows.specs.Numbers.{never, noThread, noConnection, input, output}
 use Rattle.tables.specs.Tables.{connectionAt, isLiving, owns, threadPlaces, channelPlaces, connectionPlaces, itemPlaces}
 use Rattle.tables.specs.Seen.{placeOf, state}
 use Rattle.tables.specs.Search.{sought}
-use Rattle.leaving.specs.Leaving.{leaving, handedBack, sweptItems, sweptConnections, ownedBy, freedConnections}
+use Rattle.leaving.specs.Leaving.{itemsBelow, handedBack, sweptItems, sweptConnections, ownedBy, freedConnections}
 use Rattle.desk.specs.declared.Desk.{Desk}
 use Rattle.desk.specs.declared.Next.{Next}
 use Rattle.desk.specs.Desk.{threadsOf, connectionsOf, itemsOf, isChannel, withThreads, withChannels, withConnections, withItems}
@@ -119,7 +119,7 @@ boundOf d Strong = strongBound d
 
 -- 12: "slice shorter than the items to hand back"
 abbrev pub slice-long : Desk → ℕ → List ℕ → Check
-slice-long d bound slice = needs (leb (count (leaving (itemsOf d) bound)) (length slice)) 12
+slice-long d bound slice = needs (leb (count (itemsBelow (itemsOf d) bound)) (length slice)) 12
 
 -- "Refusals are tested in the order written here."
 unfoldable pub checks : Desk → Call → List Check
@@ -186,7 +186,7 @@ withConnection d connection row = withConnections d (d .attached) (set (d .conne
 unfoldable pub ended : Desk → ℕ → Desk
 ended d thread =
     withConnections (withThreads d (without (d .living) thread) (set (d .threads) thread noThread))
-    (less (d .attached) (ownedBy (connectionsOf d) thread))
+    (except (d .attached) (ownedBy (connectionsOf d) thread))
     (freedConnections (d .connections) (ownedBy (connectionsOf d) thread))
 
 -- a new item in the lowest free place
@@ -194,17 +194,17 @@ unfoldable pub stored : Desk → Item → Desk
 stored d item = withItems d (with (d .present) (freeItem d)) (set (d .items) (freeItem d) item)
 
 -- "item becomes OPEN"
-abbrev pub opened : Desk → ℕ → Found → Desk
-opened d connection (At place item) = withConnection d connection (got (connectionAt (connectionsOf d) connection) place)
-opened d connection Nothing = d
+abbrev pub becomesOpen : Desk → ℕ → Found → Desk
+becomesOpen d connection (At place item) = withConnection d connection (got (connectionAt (connectionsOf d) connection) place)
+becomesOpen d connection Nothing = d
 
 -- "Every present item with a smaller timestamp leaves the desk."
 unfoldable pub swept : Desk → ℕ → Desk
 swept d bound =
     withItems
-    (withConnections d (d .attached) (sweptConnections (connectionsOf d) bound (leaving (itemsOf d) bound)))
-    (less (d .present) (leaving (itemsOf d) bound))
-    (sweptItems (d .items) (leaving (itemsOf d) bound))
+    (withConnections d (d .attached) (sweptConnections (connectionsOf d) bound (itemsBelow (itemsOf d) bound)))
+    (except (d .present) (itemsBelow (itemsOf d) bound))
+    (sweptItems (d .items) (itemsBelow (itemsOf d) bound))
 
 unfoldable pub effect : Desk → Call → Desk
 effect d (by thread Channel) = withChannels d (with (d .channels) (freeChannel d))
@@ -217,7 +217,7 @@ effect d (by thread End) = ended d thread
 effect d (by thread (Set time)) = withThreads d (d .living) (set (d .threads) thread (record { time = time }))
 effect d (by thread (Put connection timestamp ticket)) =
     stored d (record { channel = connectionAt (connectionsOf d) connection .channel; timestamp = timestamp; ticket = ticket })
-effect d (by thread (Get connection which)) = opened d connection (soughtBy d connection which)
+effect d (by thread (Get connection which)) = becomesOpen d connection (soughtBy d connection which)
 effect d (by thread (Consume connection timestamp)) =
     withConnection d connection
     (consumedByName (connectionAt (connectionsOf d) connection)
@@ -244,7 +244,7 @@ value d (by thread (Put connection timestamp ticket)) = 0
 value d (by thread (Get connection which)) = ticketOf (soughtBy d connection which)
 value d (by thread (Consume connection timestamp)) = 0
 value d (by thread (ConsumeUntil connection timestamp)) = 0
-value d (sweep bound slice) = count (leaving (itemsOf d) (boundOf d bound))
+value d (sweep bound slice) = count (itemsBelow (itemsOf d) (boundOf d bound))
 
 unfoldable pub time : Desk → Call → ℕ
 time d (by thread Channel) = 0
@@ -272,7 +272,7 @@ step d call = outcome d (checks d call) (value d call) (time d call) (effect d c
 -- the slice that a sweep was lent, afterwards; the other calls are lent none
 unfoldable pub sliceAfter : Desk → Call → List ℕ
 sliceAfter d (by thread deed) = []
-sliceAfter d (sweep bound slice) = handedBack (d .items) (leaving (itemsOf d) (boundOf d bound)) slice
+sliceAfter d (sweep bound slice) = handedBack (d .items) (itemsBelow (itemsOf d) (boundOf d bound)) slice
 
 -- the desk after some calls
 unfoldable pub after : Desk → List Call → Desk

@@ -13,7 +13,7 @@ use rows::Item;
 use rows::answers::check;
 use tables::places::in_use;
 use tables::places::within;
-use tables::search::find;
+use tables::search::place_of;
 use tables::search::seek;
 
 // Whether the search found an item.
@@ -45,7 +45,7 @@ impl Desk {
         let mut items = self.items;
         let visible = self.visible(thread);
         let row = connections[within(connection, Desk::CONNECTIONS) as usize];
-        let same = find(items, self.present, row.channel, timestamp);
+        let same = place_of(items, self.present, row.channel, timestamp);
         let place = words::lowest_free(self.present);
         let number = words::count(self.present);
         let code = check(
@@ -122,7 +122,7 @@ impl Desk {
         let mut connections = self.connections;
         let items = self.items;
         let row = connections[within(connection, Desk::CONNECTIONS) as usize];
-        let place = find(items, self.present, row.channel, timestamp);
+        let place = place_of(items, self.present, row.channel, timestamp);
         let code = check(
             in_use(self.living, thread, Desk::THREADS),
             1,

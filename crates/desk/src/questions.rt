@@ -8,7 +8,7 @@ use rows::Connection;
 use rows::answers::check;
 use tables::places::in_use;
 use tables::places::within;
-use tables::search::find;
+use tables::search::place_of;
 
 impl Desk {
     pub fn visible_time(self, thread: u32) -> Answer
@@ -37,7 +37,7 @@ impl Desk {
         let connections = self.connections;
         let items = self.items;
         let row = connections[within(connection, Desk::CONNECTIONS) as usize];
-        let place = find(items, self.present, row.channel, timestamp);
+        let place = place_of(items, self.present, row.channel, timestamp);
         let code = check(
             in_use(self.attached, connection, Desk::CONNECTIONS),
             3,

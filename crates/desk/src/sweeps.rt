@@ -2,14 +2,14 @@
 ghost use mathlib.Core.Path.{_≡_};
 ghost use mathlib.Core.List.{[], _∷_};
 ghost use Rattle.words.specs.Words.{count};
-ghost use Rattle.leaving.specs.Leaving.{handedBack, leaving};
+ghost use Rattle.leaving.specs.Leaving.{handedBack, itemsBelow};
 ghost use Rattle.calls.specs.Calls.{weak-sweep, strong-sweep};
 ghost use Rattle.desk.specs.Calls.{outcome, slice-long, sliceAfter, step, swept};
 ghost use Rattle.desk.specs.Desk.{itemsOf};
 use crate::Desk;
 use crate::Next;
-use leaving::below;
 use leaving::hand_back;
+use leaving::items_below;
 use leaving::swept_row;
 use rows::Answer;
 use rows::Item;
@@ -18,10 +18,10 @@ use rows::answers::check;
 impl Desk {
     // A sweep that takes the bound.
     fn sweep(mut self, bound: u32, slice: &mut [u64]) -> Next
-        ensures { λ r. ⌜ (r ≡ outcome self (slice-long self bound (now (slice .entry)) ∷ []) (count (leaving (itemsOf self) bound)) bound (swept self bound)) × (now (slice .exit) ≡ handedBack (self .items) (leaving (itemsOf self) bound) (now (slice .entry))) ⌝ }
+        ensures { λ r. ⌜ (r ≡ outcome self (slice-long self bound (now (slice .entry)) ∷ []) (count (itemsBelow (itemsOf self) bound)) bound (swept self bound)) × (now (slice .exit) ≡ handedBack (self .items) (itemsBelow (itemsOf self) bound) (now (slice .entry))) ⌝ }
     {
         let items = self.items;
-        let gone = below(items, self.present, bound);
+        let gone = items_below(items, self.present, bound);
         let number = words::count(gone);
         let code = check(number as usize <= slice.len(), 12, 0);
         let answer = Answer::with_code(code, number as u64, bound);
@@ -42,7 +42,7 @@ impl Desk {
                 self.connections[k as usize] = swept_row(used, bound, gone, row);
                 k += 1;
             }
-            self.present = words::less(self.present, gone);
+            self.present = words::except(self.present, gone);
         }
         Next { answer, desk: self }
     }

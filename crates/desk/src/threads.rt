@@ -60,7 +60,7 @@ impl Desk {
             self.threads[thread as usize] = Thread::NONE;
             self.living = words::without(self.living, thread);
             self.connections = freed;
-            self.attached = words::less(self.attached, gone);
+            self.attached = words::except(self.attached, gone);
         }
         Next { answer, desk: self }
     }

@@ -19,7 +19,7 @@ use Rattle.rows.specs.declared.Found.{Found}
 use Rattle.rows.specs.Choices.{before, preferred, ticketOf, leftOver}
 use Rattle.rows.specs.Numbers.{noConnection, noItem, input}
 use Rattle.tables.specs.Tables.{Table, connectionAt, isInput}
-use Rattle.leaving.specs.Leaving.{firstOf, inOrder, handedBack, sweptConnection, sweptConnections, sweptItems}
+use Rattle.leaving.specs.Leaving.{firstOf, ticketsInLine, handedBack, sweptConnection, sweptConnections, sweptItems}
 use Rattle.tables.proofs.Used.{used-below}
 use Rattle.leaving.proofs.Rows.{each-rows, fold-rows, fold-untouched}
 
@@ -29,18 +29,18 @@ use Rattle.leaving.proofs.Rows.{each-rows, fold-rows, fold-untouched}
 abbrev pub firstStep : List Item → ℕ → Found → Found
 firstStep rows p found = preferred before found p (getD rows p noItem)
 
-pub length-in-order : (rows : List Item) (n places : ℕ) → length (inOrder rows n places) ≡ n
-unfolding inOrder
-length-in-order rows zero places = refl
-length-in-order rows (suc n) places = ap suc (length-in-order rows n (leftOver places (firstOf rows places)))
+pub length-in-line : (rows : List Item) (n places : ℕ) → length (ticketsInLine rows n places) ≡ n
+unfolding ticketsInLine
+length-in-line rows zero places = refl
+length-in-line rows (suc n) places = ap suc (length-in-line rows n (leftOver places (firstOf rows places)))
 
 -- the slice once the tickets of the items in the places are written from i up to n
 abbrev pub handed : List Item → ℕ → List ℕ → ℕ → ℕ → List ℕ
-handed rows n slice i places = sets slice i (inOrder rows (n - i) places)
+handed rows n slice i places = sets slice i (ticketsInLine rows (n - i) places)
 
 handed-next : (rows : List Item) (n i : ℕ) (slice : List ℕ) (places : ℕ) → i < n
     → handed rows n (set slice i (ticketOf (firstOf rows places))) (i + 1) (leftOver places (firstOf rows places)) ≡ handed rows n slice i places
-unfolding inOrder
+unfolding ticketsInLine
 handed-next rows n i slice places inside =
     let more : n - i ≡ suc (n - (i + 1)) = omega arith in
     rw (more, add-one)
@@ -60,20 +60,20 @@ handed-turn rows n i slice places inside first written rest whole =
 
 -- the end: nothing is left to write
 pub handed-done : (rows : List Item) (n i : ℕ) (slice : List ℕ) (places : ℕ) {whole : List ℕ} → n ≤ i → handed rows n slice i places ≡ whole → slice ≡ whole
-unfolding inOrder
+unfolding ticketsInLine
 handed-done rows n i slice places past whole =
     let none : n - i ≡ 0 = omega arith in
-    sym (ap (λ (m : ℕ). sets slice i (inOrder rows m places)) none) ∙ whole
+    sym (ap (λ (m : ℕ). sets slice i (ticketsInLine rows m places)) none) ∙ whole
 
 -- the whole
 pub handed-back : (rows : List Item) (gone : ℕ) (slice : List ℕ) {n : ℕ} → n ≡ count gone → n ≤ length slice → handed rows n slice 0 gone ≡ handedBack rows gone slice
 unfolding handedBack
 handed-back rows gone slice {n} sized fits =
-    let tickets : List ℕ = inOrder rows n gone in
-    let long : length tickets ≡ n = length-in-order rows n gone in
+    let tickets : List ℕ = ticketsInLine rows n gone in
+    let long : length tickets ≡ n = length-in-line rows n gone in
     let all : n - 0 ≡ n = omega arith in
     let end : 0 + length tickets ≡ n = omega arith in
-    ap (λ (m : ℕ). sets slice 0 (inOrder rows m gone)) all
+    ap (λ (m : ℕ). sets slice 0 (ticketsInLine rows m gone)) all
     ∙ sets-eq tickets slice 0 (omega arith)
     ∙ ap (λ (m : ℕ). tickets ++ drop m slice) end
     ∙ rw (← sized, le-leb n (length slice) fits)

@@ -21,25 +21,25 @@ rowsOf rule zero = []
 rowsOf rule (suc n) = rule 0 ∷ rowsOf (λ i. rule (suc i)) n
 
 -- "Every present item with a smaller timestamp leaves the desk."
-unfoldable pub leaves : Table Item → ℕ → ℕ → Bool
-leaves items bound p = isPresent items p && ltb (itemAt items p .timestamp) bound
+unfoldable pub isBelow : Table Item → ℕ → ℕ → Bool
+isBelow items bound p = isPresent items p && ltb (itemAt items p .timestamp) bound
 
-unfoldable pub leaving : Table Item → ℕ → ℕ
-leaving items bound = wordOf (leaves items bound) itemPlaces
+unfoldable pub itemsBelow : Table Item → ℕ → ℕ
+itemsBelow items bound = wordOf (isBelow items bound) itemPlaces
 
 -- of the items in some places, the first "by channel number, then timestamp"
 unfoldable pub firstOf : List Item → ℕ → Found
 firstOf rows places = chosen rows before (has places)
 
 -- the tickets of n items in some places, "by channel number, then timestamp"
-unfoldable pub inOrder : List Item → ℕ → ℕ → List ℕ
-inOrder rows zero places = []
-inOrder rows (suc n) places = ticketOf (firstOf rows places) ∷ inOrder rows n (leftOver places (firstOf rows places))
+unfoldable pub ticketsInLine : List Item → ℕ → ℕ → List ℕ
+ticketsInLine rows zero places = []
+ticketsInLine rows (suc n) places = ticketOf (firstOf rows places) ∷ ticketsInLine rows n (leftOver places (firstOf rows places))
 
 -- "Tickets go to the front of the slice by channel number, then timestamp; the rest of the slice is untouched." A shorter slice is left as it was.
 unfoldable pub handedBack : List Item → ℕ → List ℕ → List ℕ
 handedBack rows gone slice =
-    cond (leb (count gone) (length slice)) (inOrder rows (count gone) gone ++ drop (count gone) slice) slice
+    cond (leb (count gone) (length slice)) (ticketsInLine rows (count gone) gone ++ drop (count gone) slice) slice
 
 -- the places of the items that left hold zeros
 unfoldable pub sweptItems : List Item → ℕ → List Item

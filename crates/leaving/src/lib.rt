@@ -5,7 +5,7 @@ ghost use lib.Dec.{eqb};
 ghost use Rattle.words.specs.Words.{with};
 ghost use Rattle.rows.specs.Numbers.{input};
 ghost use Rattle.tables.specs.Tables.{table};
-ghost use Rattle.leaving.specs.Leaving.{freedConnections, handedBack, leaving, ownedBy, sweptConnection};
+ghost use Rattle.leaving.specs.Leaving.{freedConnections, handedBack, itemsBelow, ownedBy, sweptConnection};
 use rows::Connection;
 use rows::Found;
 use rows::Item;
@@ -21,8 +21,8 @@ fn with_if(holds: bool, word: u64, place: u32) -> u64
 }
 
 // The places of the present items whose timestamps are below the bound.
-pub fn below(items: [Item; 64], present: u64, bound: u32) -> u64
-    ensures { λ r. ⌜ r ≡ leaving (table present items) bound ⌝ }
+pub fn items_below(items: [Item; 64], present: u64, bound: u32) -> u64
+    ensures { λ r. ⌜ r ≡ itemsBelow (table present items) bound ⌝ }
 {
     let mut gone = 0;
     let mut rest = present;

@@ -2,10 +2,10 @@
 use Rattle.obeys.proofs.Basis.{_∙_, _≡_, ap, refl, subst, sym, false, true, _⊎_, inl, inr, ⊎-elim, Option·none-ne-some, Option·some-injective, none, List, _<_, _≤_, ℕ, arith, eqb, ltb, length, eq-eqb, leb-false, leb-true}
 use Rattle.obeys.proofs.Basis.{lt-ltb, ltb-false, ltb-true, count, has, lowestFree, count-ext, count-le, free-below, free-lacks, Call, by, sweep, isOpen, Strong, Weak, AttachInput, AttachOutput, Channel, Consume}
 use Rattle.obeys.proofs.Basis.{ConsumeUntil, Detach, End, Get, NewThread, Put, Set, State, Which, Earliest, Latest, Named, answered, inward, never, outward, Found, At, Nothing, bool-cases, true-not-false, placeOf, state}
-use Rattle.obeys.proofs.Basis.{connectionAt, inUse, isConnection, isInput, isLiving, used-below, leaves, leaving, channel-exists, checks, connection-goes, connection-owned, isFound, item-fits, item-found, item-open}
+use Rattle.obeys.proofs.Basis.{connectionAt, inUse, isConnection, isInput, isLiving, used-below, isBelow, itemsBelow, channel-exists, checks, connection-goes, connection-owned, isFound, item-fits, item-found, item-open}
 use Rattle.obeys.proofs.Basis.{place-free, slice-long, soughtBy, thread-lives, time, time-visible, timestamp-absent, timestamp-given, value, which-given, connectionsOf, itemsOf, threadsOf, strongBound, visibleTime}
 use Rattle.obeys.proofs.Basis.{weakBound, Desk, Connection, FreeChannel, FreeConnection, FreeThread, Listed, Lowest, desk-full, inputFrom, named-never, no-channel, no-input, no-output, no-thread, no-timestamp, not-its-own}
-use Rattle.obeys.proofs.Basis.{not-open, nothing-unseen, outputTo, rule, slice-short, stateOn, table-full, taken, too-early, unused, InOrder, viewOf}
+use Rattle.obeys.proofs.Basis.{not-open, nothing-unseen, outputTo, rule, slice-short, stateOn, table-full, taken, too-early, unused, DeskInOrder, viewOf}
 use Rattle.rules.proofs.OneList.{listed-one}
 use Rattle.obeys.proofs.Chosen.{place-found}
 use Rattle.obeys.proofs.Words.{in-use, in-use-has}
@@ -13,7 +13,7 @@ use Rattle.obeys.proofs.Bounds.{visible, weak, strong}
 use Rattle.obeys.proofs.Found.{takes, takes-none}
 use Rattle.obeys.proofs.Folds.{smallest-one}
 use Rattle.obeys.proofs.Seen.{is-open}
-use Rattle.obeys.proofs.Listed.{below, listed, leaving-at}
+use Rattle.obeys.proofs.Listed.{below, listed, items-below-at}
 use Rattle.obeys.proofs.Lookup.{lives-view, dead-view, unused-view, owned-view, view-owned, input-view, holds-of, item-view, no-item-view, owned-used, used-reads, writes-view, used-not-free}
 use Rattle.obeys.proofs.Frame.{Matches, Agree, plain, check}
 
@@ -53,7 +53,7 @@ module _ {w places : ℕ} {Free : ℕ → Type 0} (f : Frees w places Free) wher
       (λ e n below. f .used n (in-use w n places below (free-below w (omega (arith, ltb-false (lowestFree w) places e)))))
       (λ e case. case (lowestFree w) (ltb-true (lowestFree w) places e) (lowest-is e))
 
-module _ (d : Desk) (o : InOrder d) where
+module _ (d : Desk) (o : DeskInOrder d) where
   -- one of the two directions
   other-way : (connection : ℕ) → isConnection (connectionsOf d) connection ≡ true
       → (eqb (connectionAt (connectionsOf d) connection .direction) inward ≡ true) ⊎ (eqb (connectionAt (connectionsOf d) connection .direction) outward ≡ true)
@@ -62,9 +62,9 @@ module _ (d : Desk) (o : InOrder d) where
 
   -- ---- the number of items
 
-  pub counted : count (leaving (itemsOf d) never) ≡ count (d .present)
-  unfolding count leaves
-  counted = count-ext _ _ 64 (λ place inside. leaving-at (itemsOf d) never inside ∙
+  pub counted : count (itemsBelow (itemsOf d) never) ≡ count (d .present)
+  unfolding count isBelow
+  counted = count-ext _ _ 64 (λ place inside. items-below-at (itemsOf d) never inside ∙
       bool-cases (has (d .present) place)
       (λ e. rw e (lt-ltb _ never (o .timestamps place e)))
       (λ e. rw e))
@@ -159,7 +159,7 @@ module _ (d : Desk) (o : InOrder d) where
 
   -- 12 answers the number
   agree-slice : (Bound : ℕ → Type 0) (bound when : ℕ) (slice : List ℕ) → Bound bound → ((b : ℕ) → Bound b → b ≡ bound)
-      → Matches (count (leaving (itemsOf d) bound)) when (slice-long d bound slice) (slice-short (viewOf d) Bound slice)
+      → Matches (count (itemsBelow (itemsOf d) bound)) when (slice-long d bound slice) (slice-short (viewOf d) Bound slice)
   unfolding answered
   agree-slice Bound bound when slice is one = record {
     code = refl;
@@ -168,13 +168,13 @@ module _ (d : Desk) (o : InOrder d) where
       below d o bound .items,
       is,
       listed d o bound,
-      omega (arith, below d o bound .counts, leb-false (count (leaving (itemsOf d) bound)) (length slice) e),
+      omega (arith, below d o bound .counts, leb-false (count (itemsBelow (itemsOf d) bound)) (length slice) e),
       sym (below d o bound .counts),
       refl,
     );
     holds = λ e v t (b, items, is-b, those, short, counts, zero).
         let same : length items ≡ length (below d o bound .items) = ap length (listed-one (subst (λ (x : ℕ). Listed (viewOf d) x items) (one b is-b) those) (listed d o bound)) in
-        omega (arith, below d o bound .counts, leb-true (count (leaving (itemsOf d) bound)) (length slice) e);
+        omega (arith, below d o bound .counts, leb-true (count (itemsBelow (itemsOf d) bound)) (length slice) e);
   }
 
   pub agree : (call : Call) → Agree (value d call) (time d call) (checks d call) (rule (viewOf d) call .refusals)

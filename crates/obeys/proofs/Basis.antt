@@ -13,9 +13,9 @@ pub use lib.ListN.{List·getD-eq-default, getD, length, length-replicate, length
 pub use lib.Seq.{getD-set-other, getD-set-same}
 pub use borrow.Author.Tests.{eq-eqb, eqb-false, eqb-true, le-leb, le-ltb, leb-false, leb-true, lt-leb, lt-ltb, ltb-false, ltb-true, ne-eqb, not-true}
 unfoldable pub use Rattle.words.specs.Words.{count, has}
-pub use Rattle.words.specs.Words.{less, lowestFree, with, without}
+pub use Rattle.words.specs.Words.{except, lowestFree, with, without}
 pub use Rattle.words.proofs.Digits.{has-from}
-pub use Rattle.words.proofs.Laws.{count-ext, count-le, count-none, count-without, free-below, free-lacks, has-less, has-none, has-with, has-without, has-wordOf, has-wordOf-in, less-at, less-lt, lowest-ext, lowest-holds}
+pub use Rattle.words.proofs.Laws.{count-ext, count-le, count-none, count-without, free-below, free-lacks, has-except, has-none, has-with, has-without, has-wordOf, has-wordOf-in, except-at, except-lt, lowest-ext, lowest-holds}
 pub use Rattle.words.proofs.Laws.{lowest-none, lowest-reach, with-other, with-same, without-other, without-same, word-ext}
 pub use Rattle.calls.specs.Calls.{AllPassable, Call, Passable, by, sliceOf, sweep}
 pub use Rattle.calls.specs.Questions.{PassableRequests, Question, Request, ask, items-present, make, state-of, strong-bound, visible-time, weak-bound}
@@ -50,11 +50,11 @@ unfoldable pub use Rattle.tables.specs.Tables.{inUse, isInput, owns, readsFor}
 pub use Rattle.tables.specs.Tables.{Table, connectionAt, connectionPlaces, isConnection, isLiving, isPresent, itemAt, itemPlaces, table, threadAt, threadPlaces}
 unfoldable pub use Rattle.tables.specs.Times.{isAwaited, leastAwaited, leastKeep, leastOpen, leastTime, openTime, smallest}
 pub use Rattle.tables.proofs.Used.{used-below}
-unfoldable pub use Rattle.leaving.specs.Leaving.{firstOf, freedConnections, handedBack, inOrder, leaves, leaving, ownedBy, sweptConnections, sweptItems}
+unfoldable pub use Rattle.leaving.specs.Leaving.{firstOf, freedConnections, handedBack, ticketsInLine, isBelow, itemsBelow, ownedBy, sweptConnections, sweptItems}
 pub use Rattle.leaving.specs.Leaving.{rowsOf, sweptConnection}
 pub use Rattle.leaving.proofs.Rows.{getD-rowsOf, length-rowsOf}
 unfoldable pub use Rattle.desk.specs.Calls.{adopted, after, attachedAs, checks, effect, ended, outcome, sliceAfter, step, stored, swept, time, value}
-pub use Rattle.desk.specs.Calls.{boundOf, channel-exists, connected, connection-goes, connection-owned, freeChannel, freeConnection, freeItem, freeThread, isFound, item-fits, item-found, item-open, opened, place-free, slice-long}
+pub use Rattle.desk.specs.Calls.{boundOf, channel-exists, connected, connection-goes, connection-owned, freeChannel, freeConnection, freeItem, freeThread, isFound, item-fits, item-found, item-open, becomesOpen, place-free, slice-long}
 pub use Rattle.desk.specs.Calls.{soughtBy, thread-lives, time-visible, timestamp-absent, timestamp-given, timestampOf, which-given, withConnection}
 unfoldable pub use Rattle.desk.specs.Desk.{fresh}
 pub use Rattle.desk.specs.Desk.{connectionsOf, itemsOf, threadsOf, withChannels, withConnections, withItems, withThreads}
@@ -65,8 +65,8 @@ pub use Rattle.rules.specs.Rules.{Before, BoundOf, Connection, Does, FreeChanne
 pub use Rattle.rules.specs.Rules.{TakesUnseen, View, VisibleTime, WeakBound, _∈_, askedOf, at, consumedBelow, desk-full, done, firstSeen, freedFrom, freshView, input, inputFrom, named-never, no-channel, no-input, no-output}
 pub use Rattle.rules.specs.Rules.{no-thread, no-timestamp, not-its-own, not-open, nothing-unseen, noticed, noticing, output, outputTo, owner, refuse, rule, seenAs, slice-short, stateOn, sweepRow, table-full, taken, tickets}
 pub use Rattle.rules.specs.Rules.{too-early, unseenIf, unused, withChannel, withItem, withThread}
-pub use Rattle.obeys.specs.Claims.{DeskAccountsBalance, DeskBounds, DeskBoundsNeverFall, DeskDoes, DeskGives, DeskGivesAlone, DeskSays, DeskSweepsExactly, ReachedReachable, StartsFresh}
-pub use Rattle.obeys.specs.Order.{ConnectionInOrder, EveryDeskInOrder, InOrder, Stands, Tidy}
+pub use Rattle.obeys.specs.Claims.{DeskAccountsBalance, DeskBounds, DeskBoundsNeverFall, DeskDoes, DeskGives, DeskGivesNoOther, DeskSays, DeskSweepsExactly, ReachedReachable, StartsFresh}
+pub use Rattle.obeys.specs.Order.{ConnectionInOrder, EveryDeskInOrder, DeskInOrder, Stands, Tidy}
 pub use Rattle.obeys.specs.Reached.{Reached}
 unfoldable pub use Rattle.obeys.specs.View.{deskAfter, outcomeOf, repliesOf, viewOf}
 pub use Rattle.obeys.specs.View.{connectionOf, itemOf}

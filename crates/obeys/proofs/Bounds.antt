@@ -2,13 +2,13 @@
 use Rattle.obeys.proofs.Basis.{_∙_, _≡_, ap, subst, sym, Bool, _&&_, true, _⊎_, ⊎-elim, some, _≤_, ℕ, arith, has, isOpen, isPending, Bound, Strong, Weak, Open, Unseen, never, Row, and-both, and-left, and-right, bool-cases}
 use Rattle.obeys.proofs.Basis.{isOpenAt, isPendingAt, connectionAt, isConnection, isInput, isLiving, itemAt, owns, readsFor, threadAt, isAwaited, leastAwaited, leastKeep, leastOpen, leastTime, openTime, boundOf}
 use Rattle.obeys.proofs.Basis.{connectionsOf, itemsOf, threadsOf, strongBound, visibleTime, weakBound, Desk, used-inside, BoundOf, Connection, IsTime, KeepTime, Smallest, StrongBound, VisibleTime, WeakBound, owner, stateOn}
-use Rattle.obeys.proofs.Basis.{InOrder, viewOf}
+use Rattle.obeys.proofs.Basis.{DeskInOrder, viewOf}
 use Rattle.obeys.proofs.Words.{in-use-has}
-use Rattle.obeys.proofs.Folds.{smallest-as, smallest-alone, smallest-either, smallest-of, some-true, some-at}
+use Rattle.obeys.proofs.Folds.{smallest-as, smallest-single, smallest-either, smallest-of, some-true, some-at}
 use Rattle.obeys.proofs.Lookup.{lives-view, view-lives, input-view, by-input, owned-view, view-owned}
 use Rattle.obeys.proofs.Seen.{is-open, is-pending, lies-there, seen-at, at-seen, state-view, pending-reads}
 
-module _ (d : Desk) (o : InOrder d) where
+module _ (d : Desk) (o : DeskInOrder d) where
   abbrev row : ℕ → Row
   row connection = connectionAt (connectionsOf d) connection
 
@@ -32,7 +32,7 @@ module _ (d : Desk) (o : InOrder d) where
       (λ time (thread, inside, lives, is). (thread, lives-view d thread lives ∙ ap some is))
       (λ time (thread, seen). (let (lives, is) = view-lives d thread time seen in (thread, used-inside (d .living) lives, lives, is)))
       (smallest-of (isLiving (threadsOf d)) (λ t. threadAt (threadsOf d) t .time) (λ t time. threadAt (threadsOf d) t .time ≡ time)
-      (λ t lives. smallest-alone (o .times t)) 16)
+      (λ t lives. smallest-single (o .times t)) 16)
 
   -- ---- visible time
 
@@ -60,13 +60,13 @@ module _ (d : Desk) (o : InOrder d) where
       let now = sym (state-view d o k time reads) ∙ opened in
       (k, used-inside (d .attached) (input-used k reads), for-reads thread k reads owned, at-seen d o isOpen (row k) time (ap isPending now) (ap isOpen now))))
       (smallest-of (readsFor (connectionsOf d) thread) (λ k. openTime (itemsOf d) (row k)) _
-      (λ k its. smallest-of (isOpenAt (itemsOf d) (row k)) stamp (λ place time. stamp place ≡ time) (λ place opened. smallest-alone (stamp-top place)) 64) 32)
+      (λ k its. smallest-of (isOpenAt (itemsOf d) (row k)) stamp (λ place time. stamp place ≡ time) (λ place opened. smallest-single (stamp-top place)) 64) 32)
 
   pub visible : (thread : ℕ) → isLiving (threadsOf d) thread ≡ true → VisibleTime (viewOf d) thread (visibleTime d thread)
   unfolding visibleTime
   visible thread lives =
       smallest-either
-      (smallest-as (λ time is. lives-view d thread lives ∙ ap some is) (λ time seen. view-lives d thread time seen .1) (smallest-alone (o .times thread)))
+      (smallest-as (λ time is. lives-view d thread lives ∙ ap some is) (λ time seen. view-lives d thread time seen .1) (smallest-single (o .times thread)))
       (open-is thread)
 
   -- ---- the weak bound
@@ -81,7 +81,7 @@ module _ (d : Desk) (o : InOrder d) where
       (λ reads. (k, used-inside (d .attached) (input-used k reads), reads, sym (at _ (input-view d k reads))))
       (⊎-elim (λ e. absurd (at _ e)) (λ e. absurd (at _ e)))))
       (smallest-of (isInput (connectionsOf d)) (λ k. row k .mark) (λ k time. row k .mark ≡ time)
-      (λ k reads. smallest-alone (o .attached k (in-use-has (d .attached) k 32 (input-used k reads)) .mark)) 32)
+      (λ k reads. smallest-single (o .attached k (in-use-has (d .attached) k 32 (input-used k reads)) .mark)) 32)
 
   pub weak : WeakBound (viewOf d) (weakBound d)
   unfolding weakBound
@@ -107,7 +107,7 @@ module _ (d : Desk) (o : InOrder d) where
       let (place, inside, passes, is) = at-seen d o isPending (row k) time now now in
       let (there, beside) = lies-there (itemsOf d) (row k) place (and-left _ _ passes) in
       (place, inside, and-both there (some-true (awaits place) 32 k (used-inside (d .attached) (input-used k reads)) (and-both reads passes)), is)))
-      (smallest-of (isAwaited (connectionsOf d) (itemsOf d)) stamp (λ place time. stamp place ≡ time) (λ place awaited. smallest-alone (stamp-top place)) 64)
+      (smallest-of (isAwaited (connectionsOf d) (itemsOf d)) stamp (λ place time. stamp place ≡ time) (λ place awaited. smallest-single (stamp-top place)) 64)
 
   pub strong : StrongBound (viewOf d) (strongBound d)
   unfolding strongBound

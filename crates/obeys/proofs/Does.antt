@@ -1,9 +1,9 @@
 -- Each accepted call does what the view says, and so does each call. Assumes nothing.
 use Rattle.obeys.proofs.Basis.{_∙_, _≡_, ap, refl, sym, false, true, some, List, [], _∷_, _<_, suc, ℕ, arith, eqb, leb, ltb, length, eqb-true, leb-true, ltb-true, count, with-same, without-same, Call, Passable, by, sliceOf}
 use Rattle.obeys.proofs.Basis.{sweep, isOpen, isPending, AttachInput, AttachOutput, Channel, Consume, ConsumeUntil, Detach, End, Get, NewThread, Put, Set, Consumed, Open, Which, refusal, ticketOf, inward, stateOf, Row}
-use Rattle.obeys.proofs.Basis.{Found, At, Nothing, Item, Pass, and-left, and-right, bool-cases, true-not-false, isUnseenAt, lies, placeOf, state, stateAt, connectionAt, isConnection, itemAt, owns, handedBack, leaving}
-use Rattle.obeys.proofs.Basis.{adopted, attachedAs, boundOf, checks, effect, freeChannel, freeConnection, freeThread, isFound, opened, slice-long, sliceAfter, soughtBy, time, timestampOf, value, connectionsOf, itemsOf}
-use Rattle.obeys.proofs.Basis.{visibleTime, Desk, fewer-free, owned-below, used-inside, BoundOf, Connection, View, consumedBelow, done, inputFrom, outputTo, rule, seenAs, sweepRow, unused, DeskDoes, InOrder, connectionOf}
+use Rattle.obeys.proofs.Basis.{Found, At, Nothing, Item, Pass, and-left, and-right, bool-cases, true-not-false, isUnseenAt, lies, placeOf, state, stateAt, connectionAt, isConnection, itemAt, owns, handedBack, itemsBelow}
+use Rattle.obeys.proofs.Basis.{adopted, attachedAs, boundOf, checks, effect, freeChannel, freeConnection, freeThread, isFound, becomesOpen, slice-long, sliceAfter, soughtBy, time, timestampOf, value, connectionsOf, itemsOf}
+use Rattle.obeys.proofs.Basis.{visibleTime, Desk, fewer-free, owned-below, used-inside, BoundOf, Connection, View, consumedBelow, done, inputFrom, outputTo, rule, seenAs, sweepRow, unused, DeskDoes, DeskInOrder, connectionOf}
 use Rattle.obeys.proofs.Basis.{viewOf}
 use native.Mathlib.Numerals.{add-one}
 use Rattle.rules.specs.Rules.{withConnection}
@@ -27,7 +27,7 @@ use Rattle.obeys.proofs.Words.{same-elsewhere, with-elsewhere, without-
 quietly : {n m : ℕ} {slice : List ℕ} {v w : View} → v ≡ w → done n m v slice ≡ done n m w slice
 quietly {n} {m} {slice} same = ap (λ (u : View). done n m u slice) same
 
-module _ (d : Desk) (o : InOrder d) where
+module _ (d : Desk) (o : DeskInOrder d) where
   -- what is known of the view of a connection stands for its row
   by-row : (connection : ℕ) → isConnection (connectionsOf d) connection ≡ true → (row : Row) (turn : Connection → Connection)
       → connectionOf (itemsOf d) row ≡ turn (connectionOf (itemsOf d) (connectionAt (connectionsOf d) connection))
@@ -47,7 +47,7 @@ module _ (d : Desk) (o : InOrder d) where
   got-accepts : (thread connection : ℕ) (which : Which) → owns (connectionsOf d) thread connection ≡ true
       → eqb (connectionAt (connectionsOf d) connection .direction) inward ≡ true
       → (found : Found) → soughtBy d connection which ≡ found → isFound found ≡ true
-      → rule (viewOf d) (by thread (Get connection which)) .Accepts (done (ticketOf found) (timestampOf found) (viewOf (opened d connection found)) [])
+      → rule (viewOf d) (by thread (Get connection which)) .Accepts (done (ticketOf found) (timestampOf found) (viewOf (becomesOpen d connection found)) [])
   unfolding isUnseenAt
   got-accepts thread connection which owned goes (At place item) e found =
       let row : Row = connectionAt (connectionsOf d) connection in
@@ -82,10 +82,10 @@ module _ (d : Desk) (o : InOrder d) where
 
   -- ---- sweeps
 
-  sweeps : (Bound : ℕ → Type 0) (bound : ℕ) (slice : List ℕ) → Bound bound → InOrder (Calls.swept d bound)
-      → leb (count (leaving (itemsOf d) bound)) (length slice) ≡ true
+  sweeps : (Bound : ℕ → Type 0) (bound : ℕ) (slice : List ℕ) → Bound bound → DeskInOrder (Calls.swept d bound)
+      → leb (count (itemsBelow (itemsOf d) bound)) (length slice) ≡ true
       → sweepRow (viewOf d) Bound slice .Accepts
-      (done (count (leaving (itemsOf d) bound)) bound (viewOf (Calls.swept d bound)) (handedBack (d .items) (leaving (itemsOf d) bound) slice))
+      (done (count (itemsBelow (itemsOf d) bound)) bound (viewOf (Calls.swept d bound)) (handedBack (d .items) (itemsBelow (itemsOf d) bound) slice))
   unfolding handedBack
   sweeps Bound bound slice is o′ long =
       let those = below d o bound in
@@ -129,10 +129,10 @@ module _ (d : Desk) (o : InOrder d) where
 
   -- ---- a refused call leaves the slice
 
-  short-stays : (bound : ℕ) (slice : List ℕ) → eqb (refusal (slice-long d bound slice ∷ [])) 0 ≡ false → handedBack (d .items) (leaving (itemsOf d) bound) slice ≡ slice
+  short-stays : (bound : ℕ) (slice : List ℕ) → eqb (refusal (slice-long d bound slice ∷ [])) 0 ≡ false → handedBack (d .items) (itemsBelow (itemsOf d) bound) slice ≡ slice
   unfolding refusal handedBack
   short-stays bound slice e =
-      bool-cases (leb (count (leaving (itemsOf d) bound)) (length slice)) (λ q. absurd (true-not-false {b = true} refl (rw q at e))) (λ q. rw q)
+      bool-cases (leb (count (itemsBelow (itemsOf d) bound)) (length slice)) (λ q. absurd (true-not-false {b = true} refl (rw q at e))) (λ q. rw q)
 
   stays : (call : Call) → eqb (refusal (checks d call)) 0 ≡ false → sliceAfter d call ≡ sliceOf call
   unfolding checks sliceAfter

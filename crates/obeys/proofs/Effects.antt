@@ -1,11 +1,11 @@
 -- The view after each effect that changes one thread, one channel or one connection, by what a table then says of each number. Assumes nothing.
 use Rattle.obeys.proofs.Basis.{_∙_, _≡_, ap, refl, sym, and-true, cond, false, true, _≢_, Option, none, some, List, _<_, _≤_, ℕ, ℕ-discrete, arith, eqb, ltb, getD, length, set, getD-set-other, getD-set-same, eq-eqb}
-use Rattle.obeys.proofs.Basis.{ltb-true, ne-eqb, has, less, with, has-wordOf-in, less-at, with-same, without-same, inward, noConnection, noThread, Row, Item, Thread, bool-cases, Table, connectionAt, inUse, isConnection}
+use Rattle.obeys.proofs.Basis.{ltb-true, ne-eqb, has, except, with, has-wordOf-in, except-at, with-same, without-same, inward, noConnection, noThread, Row, Item, Thread, bool-cases, Table, connectionAt, inUse, isConnection}
 use Rattle.obeys.proofs.Basis.{owns, used-below, freedConnections, ownedBy, ended, freeChannel, connectionsOf, itemsOf, withChannels, withThreads, Desk, used-inside, Connection, at, freedFrom, unused, withChannel}
-use Rattle.obeys.proofs.Basis.{withThread, InOrder, connectionOf, viewOf}
+use Rattle.obeys.proofs.Basis.{withThread, DeskInOrder, connectionOf, viewOf}
 use Rattle.rules.specs.Rules.{withConnection, withConnections}
 use Rattle.desk.specs.Desk as Desks
-use Rattle.obeys.proofs.Words.{in-use, Elsewhere, with-elsewhere, not-then, without-elsewhere, less-stays, in-use-has}
+use Rattle.obeys.proofs.Words.{in-use, Elsewhere, with-elsewhere, not-then, without-elsewhere, except-stays, in-use-has}
 use Rattle.obeys.proofs.Frame.{view-ext}
 use Rattle.obeys.proofs.Lookup.{used-view, unused-view}
 use Rattle.obeys.proofs.Order.Tables.{thinned-row}
@@ -28,12 +28,12 @@ in-use-with used p n places inside fits =
       | no apart ↦ rw (ne-eqb n p apart) (in-use-elsewhere (with-elsewhere used p) n places fits apart)
     ]
 
-in-use-less : (used gone n places : ℕ) → places ≤ 64 → inUse (less used gone) n places ≡ cond (has gone n) false (inUse used n places)
+in-use-except : (used gone n places : ℕ) → places ≤ 64 → inUse (except used gone) n places ≡ cond (has gone n) false (inUse used n places)
 unfolding inUse
-in-use-less used gone n places fits =
+in-use-except used gone n places fits =
     bool-cases (ltb n places)
     (λ e. let below : n < places = ltb-true n places e in
-    rw (less-at used gone {i = n} (omega arith)) (bool-cases (has gone n) (λ g. rw (g, e) (bool-cases (has used n) (λ q. rw q) (λ q. rw q))) (λ g. rw (g, e) (and-true (has used n)))))
+    rw (except-at used gone {i = n} (omega arith)) (bool-cases (has gone n) (λ g. rw (g, e) (bool-cases (has used n) (λ q. rw q) (λ q. rw q))) (λ g. rw (g, e) (and-true (has used n)))))
     (λ e. rw e (bool-cases (has gone n) (λ g. rw g) (λ g. rw g)))
 
 module _ {A B : Type 0} (f : A → B) (nothing : B) (zeros : A) (places : ℕ) where
@@ -54,7 +54,7 @@ module _ {A B : Type 0} (f : A → B) (nothing : B) (zeros : A) (places : ℕ) w
 abbrev virtual : Thread → Option ℕ
 virtual row = some (row .time)
 
-module _ (d : Desk) (o : InOrder d) where
+module _ (d : Desk) (o : DeskInOrder d) where
   pub view-channel : freeChannel d < 8 → viewOf (withChannels d (with (d .channels) (freeChannel d))) ≡ withChannel (viewOf d) (freeChannel d)
   unfolding viewOf
   view-channel free = view-ext (λ t. refl) (λ c. in-use-with (d .channels) (freeChannel d) c 8 free (omega arith)) (λ k. refl) (λ c t. refl)
@@ -88,7 +88,7 @@ module _ (d : Desk) (o : InOrder d) where
 
     in-word : isConnection (connectionsOf (ended d thread)) connection ≡ cond (has gone connection) false (inUse (d .attached) connection 32)
     unfolding ended
-    in-word = in-use-less (d .attached) gone connection 32 (omega arith)
+    in-word = in-use-except (d .attached) gone connection 32 (omega arith)
 
     its : inUse (d .attached) connection 32 ≡ true → has gone connection ≡ eqb (row .thread) thread
     unfolding ownedBy owns
@@ -99,7 +99,7 @@ module _ (d : Desk) (o : InOrder d) where
     unfolding ended freedConnections
     same-row e g =
         let inside : connection < 32 = used-inside (d .attached) e in
-        let left = less-stays (d .attached) gone connection (omega arith) (in-use-has (d .attached) connection 32 e) g in
+        let left = except-stays (d .attached) gone connection (omega arith) (in-use-has (d .attached) connection 32 e) g in
         ap (connectionOf (itemsOf d)) (thinned-row (o .connections) (omega arith) gone connection left)
 
     ended-connection : viewOf (ended d thread) .connection connection ≡ freedFrom thread (viewOf d .connection connection)

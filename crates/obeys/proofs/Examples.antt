@@ -22,7 +22,7 @@ use Rattle.desk.proofs.Computing.{computing}
 use Rattle.rules.specs.Rules.{inputFrom, Item}
 use Rattle.rules.specs.Runs.{Further, CouldBeGot}
 use Rattle.rules.proofs.Order.{every-view-in-order}
-use Rattle.rules.proofs.Ways.{bound-above}
+use Rattle.rules.proofs.Ways.{bound-at-least}
 use Rattle.rules.proofs.Gettable.{lost}
 use Rattle.obeys.specs.Reached.{Reached}
 use Rattle.obeys.specs.View.{viewOf, outcomeOf}
@@ -82,7 +82,7 @@ pub lost-five : CouldBeGot (viewOf (after fresh consumedFive)) (item 0 5 500) �
 unfolding computing
 lost-five =
     let r = reached consumedFive (omega arith) in
-    lost (every-view-in-order _ (reached-reachable _ r)) (bound-above Strong (desk-bounds _ r Strong)) (item 0 5 500) (omega arith)
+    lost (every-view-in-order _ (reached-reachable _ r)) (bound-at-least Strong (desk-bounds _ r Strong)) (item 0 5 500) (omega arith)
 
 -- and with every connection in use the item is got after a detach
 abbrev attachAll : ℕ → List Call

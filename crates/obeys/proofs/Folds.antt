@@ -42,8 +42,8 @@ smallest-as to from s =
     record { at-most-never = s .at-most-never; at-most-each = λ time b. s .at-most-each time (from time b); attained = λ below. to _ (s .attained below) }
 
 -- of one time
-pub smallest-alone : {n : ℕ} → n ≤ never → Smallest (λ time. n ≡ time) n
-smallest-alone top = record { at-most-never = top; at-most-each = λ time same. omega arith; attained = λ below. refl }
+pub smallest-single : {n : ℕ} → n ≤ never → Smallest (λ time. n ≡ time) n
+smallest-single top = record { at-most-never = top; at-most-each = λ time same. omega arith; attained = λ below. refl }
 
 -- of two kinds of times
 pub smallest-either : {A B : ℕ → Type 0} {a b : ℕ} → Smallest A a → Smallest B b → Smallest (λ time. A time ⊎ B time) (min a b)

@@ -1,10 +1,10 @@
 -- What a get finds is what the view says that it takes. Assumes nothing.
 use Rattle.obeys.proofs.Basis.{_∙_, _≡_, ap, refl, sym, true, _<_, ℕ, arith, eq-eqb, eqb-true, ltb-false, isPending, isUnseen, Unseen, Which, Earliest, Latest, Named, Row, At, Nothing, Item, isWanted, isUnseenAt}
-use Rattle.obeys.proofs.Basis.{connectionAt, isInput, itemAt, soughtBy, connectionsOf, itemsOf, Desk, TakesUnseen, stateOn, InOrder, viewOf}
+use Rattle.obeys.proofs.Basis.{connectionAt, isInput, itemAt, soughtBy, connectionsOf, itemsOf, Desk, TakesUnseen, stateOn, DeskInOrder, viewOf}
 use Rattle.obeys.proofs.Seen.{seen-at, at-seen, state-view, is-unseen}
 use Rattle.obeys.proofs.Chosen.{Sought, sought-found, sought-some}
 
-module _ (d : Desk) (o : InOrder d) (connection : ℕ) (reads : isInput (connectionsOf d) connection ≡ true) where
+module _ (d : Desk) (o : DeskInOrder d) (connection : ℕ) (reads : isInput (connectionsOf d) connection ≡ true) where
   abbrev row : Row
   row = connectionAt (connectionsOf d) connection
 

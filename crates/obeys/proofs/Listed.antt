@@ -1,7 +1,7 @@
 -- The tickets that a sweep hands back are those of the present items below its bound, in line. Assumes nothing.
 use Rattle.obeys.proofs.Basis.{_∙_, _≡_, ap, refl, subst, sym, false, true, _↔_, inl, inr, ⊎-elim, List, [], _∷_, _<_, _≤_, suc, zero, ℕ, ℕ-discrete, le-refl, arith, eqb, ltb, getD, length, eq-eqb, eqb-false, eqb-true}
 use Rattle.obeys.proofs.Basis.{le-ltb, lt-ltb, ltb-false, ltb-true, ne-eqb, count, has, without, count-ext, count-none, count-without, has-none, has-wordOf, has-wordOf-in, without-other, before, noItem, Found, At, Nothing}
-use Rattle.obeys.proofs.Basis.{Item, and-both, and-left, and-right, bool-cases, Table, isPresent, itemAt, firstOf, inOrder, leaves, leaving, itemsOf, Desk, Before, InLine, IsPresent, Listed, _∈_, tickets, InOrder, viewOf}
+use Rattle.obeys.proofs.Basis.{Item, and-both, and-left, and-right, bool-cases, Table, isPresent, itemAt, firstOf, ticketsInLine, isBelow, itemsBelow, itemsOf, Desk, Before, InLine, IsPresent, Listed, _∈_, tickets, DeskInOrder, viewOf}
 use Rattle.rules.specs.Rules as Rules
 use Rattle.obeys.proofs.Words.{without-apart, without-was}
 use Rattle.obeys.proofs.Lookup.{item-view, view-item}
@@ -82,7 +82,7 @@ first-of rows places counted = go (firstOf rows places) refl
 pub record Line (rows : List Item) (n places : ℕ) : Type 0 where
   pub items : List Rules.Item
   pub counts : length items ≡ n
-  pub hands : tickets items ≡ inOrder rows n places
+  pub hands : tickets items ≡ ticketsInLine rows n places
   pub in-line : InLine items
   pub exactly : (item : Rules.Item) → (item ∈ items) ↔ ((place : ℕ) × (place < 64) × (has places place ≡ true) × (entry (getD rows place noItem) ≡ item))
 
@@ -92,7 +92,7 @@ line : (rows : List Item) (n places : ℕ) → count places ≡ n
     → getD rows place noItem .timestamp ≡ getD rows other noItem .timestamp
     → place ≡ other)
     → Line rows n places
-unfolding inOrder
+unfolding ticketsInLine
 line rows zero places counted one-each = record {
   items = [];
   counts = refl;
@@ -129,37 +129,37 @@ line rows (suc n) places counted one-each =
 
 -- ---- the items below a bound
 
-pub leaving-at : (items : Table Item) (bound : ℕ) {place : ℕ} → place < 64 → has (leaving items bound) place ≡ leaves items bound place
-unfolding leaving
-leaving-at items bound inside = has-wordOf-in (leaves items bound) inside
+pub items-below-at : (items : Table Item) (bound : ℕ) {place : ℕ} → place < 64 → has (itemsBelow items bound) place ≡ isBelow items bound place
+unfolding itemsBelow
+items-below-at items bound inside = has-wordOf-in (isBelow items bound) inside
 
-module _ (d : Desk) (o : InOrder d) (bound : ℕ) where
+module _ (d : Desk) (o : DeskInOrder d) (bound : ℕ) where
   abbrev gone : ℕ
-  gone = leaving (itemsOf d) bound
+  gone = itemsBelow (itemsOf d) bound
 
-  gone-leaves : (place : ℕ) → has gone place ≡ true → (isPresent (itemsOf d) place ≡ true) × (itemAt (itemsOf d) place .timestamp < bound)
-  unfolding leaving leaves
-  gone-leaves place held =
-      let left = and-right (ltb place 64) _ (sym (has-wordOf (leaves (itemsOf d) bound) 64 place) ∙ held) in
+  gone-below : (place : ℕ) → has gone place ≡ true → (isPresent (itemsOf d) place ≡ true) × (itemAt (itemsOf d) place .timestamp < bound)
+  unfolding itemsBelow isBelow
+  gone-below place held =
+      let left = and-right (ltb place 64) _ (sym (has-wordOf (isBelow (itemsOf d) bound) 64 place) ∙ held) in
       (and-left (isPresent (itemsOf d) place) _ left, ltb-true _ bound (and-right (isPresent (itemsOf d) place) _ left))
 
   pub below : Line (d .items) (count gone) gone
-  below = line (d .items) (count gone) gone refl (λ place other held also. o .one-item-a-pair place other (gone-leaves place held .0) (gone-leaves other also .0))
+  below = line (d .items) (count gone) gone refl (λ place other held also. o .one-item-a-pair place other (gone-below place held .0) (gone-below other also .0))
 
   pub listed : Listed (viewOf d) bound (below .items)
-  unfolding leaves
+  unfolding isBelow
   listed = record {
     in-line = below .in-line;
     exactly = λ item. (
       λ in-it. (let (place, inside, held, is) = below .exactly item .0 in-it in
-          let (there, early) = gone-leaves place held in
+          let (there, early) = gone-below place held in
           subst (λ (l : Rules.Item). IsPresent (viewOf d) l × (l .timestamp < bound)) is
           (item-view d o {place = place} (record { inside = inside; there = there; channel-is = refl; timestamp-is = refl }), early)),
       λ (seen, early). (let (place, h, ticket) = view-item d o (item .channel) (item .timestamp) (item .ticket) seen in
           below .exactly item .1 (
             place,
             h .inside,
-            leaving-at (itemsOf d) bound (h .inside) ∙ and-both (h .there) (lt-ltb _ bound (omega (arith, h .timestamp-is))),
+            items-below-at (itemsOf d) bound (h .inside) ∙ and-both (h .there) (lt-ltb _ bound (omega (arith, h .timestamp-is))),
             λ i. record { channel = h .channel-is i; timestamp = h .timestamp-is i; ticket = ticket i },
           )),
     );

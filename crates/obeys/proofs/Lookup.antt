@@ -1,7 +1,7 @@
 -- What the view of a desk says, from its tables. Assumes nothing.
 use Rattle.obeys.proofs.Basis.{_∙_, _≡_, ap, sym, Bool, _&&_, false, true, _⊎_, inl, inr, Option·none-ne-some, Option·some-injective, none, some, _<_, _≤_, ℕ, arith, eqb, ltb, eq-eqb, eqb-true, le-ltb, lt-ltb, ltb-true}
 use Rattle.obeys.proofs.Basis.{ne-eqb, has, lowest-ext, inward, outward, Row, Item, and-both, and-left, and-right, bool-cases, isItem, placeOf, state, Table, connectionAt, isConnection, isInput, isLiving, itemAt, owns}
-use Rattle.obeys.proofs.Basis.{threadAt, connectionsOf, itemsOf, threadsOf, Desk, input, output, owner, unused, InOrder, connectionOf, viewOf}
+use Rattle.obeys.proofs.Basis.{threadAt, connectionsOf, itemsOf, threadsOf, Desk, input, output, owner, unused, DeskInOrder, connectionOf, viewOf}
 use Rattle.obeys.proofs.Chosen.{place-found, place-reach}
 use Rattle.obeys.proofs.Words.{not-then}
 
@@ -97,7 +97,7 @@ module _ (d : Desk) (connection : ℕ) where
 
 -- ---- items
 
-module _ (d : Desk) (o : InOrder d) where
+module _ (d : Desk) (o : DeskInOrder d) where
   pub record Holds (place channel timestamp : ℕ) : Type 0 where
     pub inside : place < 64
     pub there : has (d .present) place ≡ true
@@ -147,7 +147,7 @@ module _ (d : Desk) (o : InOrder d) where
   no-item-view channel timestamp past = rw (le-ltb (placeOf (itemsOf d) channel timestamp) 64 past)
 
 -- a pair lies in the same place of two desks, where each holds it wherever the other does
-pub same-place : (d : Desk) (o : InOrder d) (e : Desk) (o′ : InOrder e) (channel timestamp : ℕ)
+pub same-place : (d : Desk) (o : DeskInOrder d) (e : Desk) (o′ : DeskInOrder e) (channel timestamp : ℕ)
     → ((p : ℕ) → Holds d o p channel timestamp → Holds e o′ p channel timestamp)
     → ((p : ℕ) → Holds e o′ p channel timestamp → Holds d o p channel timestamp)
     → placeOf (itemsOf e) channel timestamp ≡ placeOf (itemsOf d) channel timestamp

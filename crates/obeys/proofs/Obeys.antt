@@ -1,9 +1,9 @@
 -- The desk's replies are those of the rules, and what holds of every run under the rules holds of the desk. Assumes nothing.
 use Rattle.obeys.proofs.Basis.{subst, List, [], _∷_, AllPassable, Call, sweep, PassableRequests, Request, ask, items-present, make, Bound, Strong, Weak, never, ℕ, boundOf, after, step, fresh, Desk, View, freshView, DeskAccountsBalance, DeskBounds}
-use Rattle.obeys.proofs.Basis.{DeskBoundsNeverFall, DeskGives, DeskGivesAlone, DeskSweepsExactly, ReachedReachable, Reached, deskAfter, outcomeOf, repliesOf, viewOf}
+use Rattle.obeys.proofs.Basis.{DeskBoundsNeverFall, DeskGives, DeskGivesNoOther, DeskSweepsExactly, ReachedReachable, Reached, deskAfter, outcomeOf, repliesOf, viewOf}
 use Rattle.calls.specs.Calls.{put}
 use Rattle.rules.specs.Rules.{Item}
-use Rattle.rules.specs.Runs.{Calls, stop, next, Gives}
+use Rattle.rules.specs.Runs.{Run, stop, next, Gives}
 use Rattle.rules.specs.Claims.{HandsBack, PutBy}
 use Rattle.rules.proofs.One.{gives-once}
 use Rattle.rules.proofs.Bounds.{bounds-never-fall}
@@ -38,20 +38,20 @@ fresh-gives requests all =
 pub desk-gives : DeskGives
 desk-gives requests all = (_, fresh-gives requests all)
 
-pub desk-gives-alone : DeskGivesAlone
-desk-gives-alone requests all replies v gives = gives-once freshView _ _ requests replies (repliesOf fresh requests) gives (fresh-gives requests all)
+pub desk-gives-no-other : DeskGivesNoOther
+desk-gives-no-other requests all replies v gives = gives-once freshView _ _ requests replies (repliesOf fresh requests) gives (fresh-gives requests all)
 
 -- ---- runs
 
-calls-from : (d : Desk) → Reached d → (calls : List Call) → AllPassable calls → Calls (viewOf d) (viewOf (after d calls))
+calls-from : (d : Desk) → Reached d → (calls : List Call) → AllPassable calls → Run (viewOf d) (viewOf (after d calls))
 unfolding outcomeOf after
 calls-from d r [] all = stop
 calls-from d r (call ∷ calls) all = next call (outcomeOf d call) (all .0) (desk-does d r call (all .0)) (calls-from (step d call .desk) (reached-step d r call (all .0)) calls (all .1))
 
 pub reached-reachable : ReachedReachable
 reached-reachable d r =
-    subst (λ (v : View). Calls v (viewOf d)) starts-fresh
-    (subst (λ (e : Desk). Calls (viewOf fresh) (viewOf e)) (r .reaches) (calls-from fresh fresh-reached (r .calls) (r .passable)))
+    subst (λ (v : View). Run v (viewOf d)) starts-fresh
+    (subst (λ (e : Desk). Run (viewOf fresh) (viewOf e)) (r .reaches) (calls-from fresh fresh-reached (r .calls) (r .passable)))
 
 -- ---- each claim in a line
 

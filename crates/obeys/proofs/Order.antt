@@ -5,8 +5,8 @@ pub mod Desks
 use Rattle.obeys.proofs.Basis.{_≡_, ap, refl, false, false≢true, true, inl, inr, _+_, _<_, _≤_, suc, zero, ℕ, decLt, ℕ-discrete, arith, getD, length-replicate, replicate, eqb-true, leb-true, ltb-true, has, with, has-from}
 use Rattle.obeys.proofs.Basis.{has-none, with-same, without-same, Call, Passable, by, sweep, isPending, Bound, Strong, Weak, AttachInput, AttachOutput, Channel, Consume, ConsumeUntil, Detach, End, Get, NewThread, Put, Set}
 use Rattle.obeys.proofs.Basis.{Which, inward, never, noConnection, noItem, noThread, outward, Row, Found, At, Nothing, Pass, and-left, and-right, true-not-false, isUnseenAt, lies, state, stateAt, connectionAt}
-use Rattle.obeys.proofs.Basis.{connectionPlaces, isConnection, owns, threadPlaces, adopted, attachedAs, boundOf, checks, effect, freeChannel, freeConnection, freeThread, isFound, opened, soughtBy, withConnection}
-use Rattle.obeys.proofs.Basis.{connectionsOf, fresh, itemsOf, visibleTime, Desk, fewer-free, owned-below, used-inside, ConnectionInOrder, EveryDeskInOrder, InOrder, Tidy}
+use Rattle.obeys.proofs.Basis.{connectionPlaces, isConnection, owns, threadPlaces, adopted, attachedAs, boundOf, checks, effect, freeChannel, freeConnection, freeThread, isFound, becomesOpen, soughtBy, withConnection}
+use Rattle.obeys.proofs.Basis.{connectionsOf, fresh, itemsOf, visibleTime, Desk, fewer-free, owned-below, used-inside, ConnectionInOrder, EveryDeskInOrder, DeskInOrder, Tidy}
 use Rattle.obeys.proofs.Reached.{step-keeps, reached-keeps}
 use Rattle.obeys.proofs.Words.{in-use-has, with-was, with-elsewhere, without-elsewhere, same-elsewhere}
 use Rattle.obeys.proofs.Chosen.{sought-found}
@@ -34,7 +34,7 @@ one-lives thread lives =
 nothing : (place : ℕ) → has 0 place ≡ true → ⊥
 nothing place used = true-not-false used (has-none place)
 
-fresh-in-order : InOrder fresh
+fresh-in-order : DeskInOrder fresh
 unfolding fresh
 fresh-in-order = record {
   threads = tidy-zeros noThread 16 1 one-lives;
@@ -49,11 +49,11 @@ fresh-in-order = record {
 
 -- ---- the effects
 
-module _ (d : Desk) (o : InOrder d) where
+module _ (d : Desk) (o : DeskInOrder d) where
   -- another row for the connection that a call names
   owned-set : (thread connection : ℕ) → owns (connectionsOf d) thread connection ≡ true → (row : Row)
       → (ConnectionInOrder (itemsOf d) (connectionAt (connectionsOf d) connection) → ConnectionInOrder (itemsOf d) row)
-      → InOrder (withConnection d connection row)
+      → DeskInOrder (withConnection d connection row)
   unfolding owns
   owned-set thread connection owned row kept =
       let used = in-use-has (d .attached) connection connectionPlaces (and-left (isConnection (connectionsOf d) connection) _ owned) in
@@ -62,7 +62,7 @@ module _ (d : Desk) (o : InOrder d) where
 
   -- a get opens what it found
   opened-in-order : (thread connection : ℕ) (which : Which) → owns (connectionsOf d) thread connection ≡ true → connectionAt (connectionsOf d) connection .direction ≡ inward
-      → (found : Found) → soughtBy d connection which ≡ found → isFound found ≡ true → InOrder (opened d connection found)
+      → (found : Found) → soughtBy d connection which ≡ found → isFound found ≡ true → DeskInOrder (becomesOpen d connection found)
   unfolding isUnseenAt
   opened-in-order thread connection which owned reads (At place item) search found =
       let row = connectionAt (connectionsOf d) connection in
@@ -80,12 +80,12 @@ module _ (d : Desk) (o : InOrder d) where
   added : (w p : ℕ) {P : Type 0} → p < 64 → has (with w p) p ≡ false → P
   added w p below unused = absurd (true-not-false (with-same w below) unused)
 
-  attached-in-order : freeConnection d < connectionPlaces → (row : Row) → ConnectionInOrder (itemsOf d) row → InOrder (attachedAs d row)
+  attached-in-order : freeConnection d < connectionPlaces → (row : Row) → ConnectionInOrder (itemsOf d) row → DeskInOrder (attachedAs d row)
   unfolding attachedAs
   attached-in-order fits row good =
       connection-set o (freeConnection d) row (with-elsewhere (d .attached) (freeConnection d)) fits (added (d .attached) (freeConnection d) (omega arith)) (λ _. good)
 
-  pub in-order-effect : (call : Call) → Passable call → Pass (checks d call) → InOrder (effect d call)
+  pub in-order-effect : (call : Call) → Passable call → Pass (checks d call) → DeskInOrder (effect d call)
   unfolding checks effect adopted state
   in-order-effect (by thread Channel) fits p = record {
     threads = o .threads;
@@ -129,4 +129,4 @@ module _ (d : Desk) (o : InOrder d) where
   in-order-effect (sweep bound slice) fits p = swept-in-order o (boundOf d bound) (bound-top bound)
 
 pub every-desk-in-order : EveryDeskInOrder
-every-desk-in-order = reached-keeps InOrder fresh-in-order (λ d call o fits. step-keeps InOrder d call o (in-order-effect d o call fits))
+every-desk-in-order = reached-keeps DeskInOrder fresh-in-order (λ d call o fits. step-keeps DeskInOrder d call o (in-order-effect d o call fits))

@@ -1,7 +1,7 @@
 -- How a connection's row looks after a get, a consume, a raised mark and an attach. Assumes nothing.
 use Rattle.obeys.proofs.Basis.{_∙_, _≡_, ap, fun-ext, refl, sym, cond, false, _≢_, none, some, _<_, _≤_, max, ℕ, decLt, ℕ-discrete, arith, leb, ltb, eq-eqb, le-leb, le-ltb, leb-false, lt-leb, lt-ltb, ne-eqb, has, with}
 use Rattle.obeys.proofs.Basis.{without, has-none, with-other, with-same, without-other, State, Absent, Consumed, Open, consumedByName, got, raised, withFacts, inward, byName, stateOf, Row, Item, bool-cases, state-present}
-use Rattle.obeys.proofs.Basis.{placeOf, state, Table, itemAt, connected, itemsOf, Desk, consumedBelow, firstSeen, input, seenAs, unseenIf, InOrder, connectionOf, itemOf}
+use Rattle.obeys.proofs.Basis.{placeOf, state, Table, itemAt, connected, itemsOf, Desk, consumedBelow, firstSeen, input, seenAs, unseenIf, DeskInOrder, connectionOf, itemOf}
 use Rattle.obeys.proofs.Chosen.{place-found}
 use Rattle.obeys.proofs.Lookup.{input-row, Holds, holds-of, holds-place}
 
@@ -11,13 +11,13 @@ input-seen {thread} {channel} {mark} same = ap (input thread channel mark) (fun-
 
 -- ---- one place's facts change
 
-holds-state : (d : Desk) (o : InOrder d) (row : Row) {place timestamp : ℕ} → Holds d o place (row .channel) timestamp
+holds-state : (d : Desk) (o : DeskInOrder d) (row : Row) {place timestamp : ℕ} → Holds d o place (row .channel) timestamp
     → state (itemsOf d) row timestamp ≡ cond (leb (row .mark) timestamp) (byName (has (row .opened) place) (has (row .consumed) place)) Consumed
 unfolding state
 holds-state d o row {place} {timestamp} h = rw (holds-place d o h) (state-present row timestamp place (h .inside))
 
 -- other facts, which differ at the place of one timestamp
-module _ (d : Desk) (o : InOrder d) (row : Row) {place timestamp : ℕ} (h : Holds d o place (row .channel) timestamp) (opened consumed : ℕ)
+module _ (d : Desk) (o : DeskInOrder d) (row : Row) {place timestamp : ℕ} (h : Holds d o place (row .channel) timestamp) (opened consumed : ℕ)
     (opened-same : (other : ℕ) → other < 64 → other ≢ place → has opened other ≡ has (row .opened) other)
     (consumed-same : (other : ℕ) → other < 64 → other ≢ place → has consumed other ≡ has (row .consumed) other) where
   abbrev next : Row
@@ -44,7 +44,7 @@ module _ (d : Desk) (o : InOrder d) (row : Row) {place timestamp : ℕ} (h : Hol
       ])
       ∙ sym (ap (seenAs s timestamp) (input-row (itemsOf d) row reads))
 
-module _ (d : Desk) (o : InOrder d) (row : Row) {place timestamp : ℕ} (h : Holds d o place (row .channel) timestamp)
+module _ (d : Desk) (o : DeskInOrder d) (row : Row) {place timestamp : ℕ} (h : Holds d o place (row .channel) timestamp)
     (reads : row .direction ≡ inward) (above : row .mark ≤ timestamp) where
   pub row-got : has (row .consumed) place ≡ false → connectionOf (itemsOf d) (got row place) ≡ seenAs Open timestamp (connectionOf (itemsOf d) row)
   unfolding got

@@ -1,6 +1,6 @@
 -- The desk answers each question as its view says. Assumes nothing.
 use Rattle.obeys.proofs.Basis.{_∙_, ap, refl, sym, inl, inr, Question, items-present, state-of, strong-bound, visible-time, weak-bound, stateNumber, never, Codes, Pass, answered-zero, pass-refusal, Desk, Connection, Says}
-use Rattle.obeys.proofs.Basis.{askedOf, stateOn, DeskSays, InOrder, viewOf}
+use Rattle.obeys.proofs.Basis.{askedOf, stateOn, DeskSays, DeskInOrder, viewOf}
 use Rattle.desk.specs.Questions.{questionChecks, replyValue, replyTime, reply}
 use Rattle.obeys.proofs.Order.{every-desk-in-order}
 use Rattle.obeys.proofs.Lookup.{unused-view, input-view, used-not-free, used-reads}
@@ -17,7 +17,7 @@ question-codes d strong-bound = tt
 question-codes d (state-of connection timestamp) = (refl, (refl, (refl, tt)))
 question-codes d items-present = tt
 
-module _ (d : Desk) (o : InOrder d) where
+module _ (d : Desk) (o : DeskInOrder d) where
   question-agree : (q : Question) → Agree (replyValue d q) (replyTime d q) (questionChecks d q) (askedOf (viewOf d) q .refusals)
   unfolding questionChecks
   question-agree (visible-time thread) = check (agree-thread d o thread) (λ _. tt)

@@ -1,7 +1,7 @@
 -- What the state of a timestamp says of the mark and of the two facts of its item's place, and that the view has the same states. Assumes nothing.
 use Rattle.obeys.proofs.Basis.{_≡_, ap, refl, sym, Bool, _&&_, cond, false, true, _⊎_, inl, inr, ⊎-elim, _<_, _≤_, ℕ, arith, leb, ltb, eq-eqb, eqb-true, leb-false, ltb-false, has, isOpen, isPending, isUnseen, State, Absent}
 use Rattle.obeys.proofs.Basis.{Consumed, Open, Unseen, byName, stateOf, Row, Item, and-both, and-left, and-right, true-not-false, lies, placeOf, state, stateAt, Table, connectionAt, isInput, isPresent, itemAt}
-use Rattle.obeys.proofs.Basis.{connectionsOf, itemsOf, Desk, Connection, stateOn, InOrder, viewOf}
+use Rattle.obeys.proofs.Basis.{connectionsOf, itemsOf, Desk, Connection, stateOn, DeskInOrder, viewOf}
 use Rattle.obeys.proofs.Chosen.{place-found}
 use Rattle.obeys.proofs.Lookup.{input-view, by-input, Holds, holds-of, holds-place}
 
@@ -63,7 +63,7 @@ pub lies-there : (items : Table Item) (row : Row) (place : ℕ) → lies items r
 unfolding lies
 lies-there items row place e = (and-left _ _ e, eqb-true _ _ (and-right (isPresent items place) _ e))
 
-module _ (d : Desk) (o : InOrder d) where
+module _ (d : Desk) (o : DeskInOrder d) where
   -- ---- by the place
 
   lies-holds : (row : Row) (place : ℕ) → lies (itemsOf d) row place ≡ true → Holds d o place (row .channel) (itemAt (itemsOf d) place .timestamp)

@@ -1,14 +1,14 @@
 -- The view after a put: one item more, and UNSEEN where it was ABSENT. Assumes nothing.
 use Rattle.obeys.proofs.Basis.{_∙_, _≡_, ap, refl, sym, false, true, _≢_, some, _<_, _≤_, ℕ, ℕ-discrete, arith, eqb, ltb, getD-set-other, getD-set-same, eq-eqb, eqb-true, le-leb, lt-leb, lt-ltb, ltb-true, ne-eqb, has}
 use Rattle.obeys.proofs.Basis.{free-lacks, lowest-ext, with-other, with-same, inward, noItem, stateOf, Row, Item, bool-cases, true-not-false, isItem, placeOf, state, connectionAt, isConnection, itemAt, freeItem, stored}
-use Rattle.obeys.proofs.Basis.{connectionsOf, itemsOf, Desk, input, noticed, noticing, withItem, InOrder, connectionOf, itemOf, viewOf}
+use Rattle.obeys.proofs.Basis.{connectionsOf, itemsOf, Desk, input, noticed, noticing, withItem, DeskInOrder, connectionOf, itemOf, viewOf}
 use Rattle.obeys.proofs.Chosen.{place-found}
 use Rattle.obeys.proofs.Words.{in-use-has, not-then}
 use Rattle.obeys.proofs.Frame.{view-ext}
 use Rattle.obeys.proofs.Lookup.{used-view, unused-view, input-row, output-row, Holds, holds-of, holds-place}
 use Rattle.obeys.proofs.Rows.{input-seen}
 
-module _ (d : Desk) (o : InOrder d) (item : Item) (o′ : InOrder (stored d item)) (free : freeItem d < 64) (absent : 64 ≤ placeOf (itemsOf d) (item .channel) (item .timestamp)) where
+module _ (d : Desk) (o : DeskInOrder d) (item : Item) (o′ : DeskInOrder (stored d item)) (free : freeItem d < 64) (absent : 64 ≤ placeOf (itemsOf d) (item .channel) (item .timestamp)) where
   abbrev e : Desk
   e = stored d item
 

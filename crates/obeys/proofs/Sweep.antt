@@ -1,57 +1,57 @@
 -- The view after a sweep: no item below its bound is left, and below it all is CONSUMED. Assumes nothing.
-use Rattle.obeys.proofs.Basis.{_∙_, _≡_, ap, refl, sym, Bool, _&&_, and-true, cond, false, true, none, _<_, _≤_, ℕ, arith, eqb, leb, ltb, eqb-true, le-ltb, leb-false, lt-ltb, ltb-false, ltb-true, has, less, less-at, Absent}
-use Rattle.obeys.proofs.Basis.{Consumed, cleared, raised, inward, noConnection, byName, stateOf, Row, and-both, bool-cases, true-not-false, placeOf, state, connectionAt, isConnection, isInput, itemAt, leaves, leaving}
-use Rattle.obeys.proofs.Basis.{sweptConnection, sweptConnections, sweptItems, getD-rowsOf, swept, connectionsOf, itemsOf, Desk, used-inside, Connection, consumedBelow, InOrder, connectionOf, itemOf, viewOf}
+use Rattle.obeys.proofs.Basis.{_∙_, _≡_, ap, refl, sym, Bool, _&&_, and-true, cond, false, true, none, _<_, _≤_, ℕ, arith, eqb, leb, ltb, eqb-true, le-ltb, leb-false, lt-ltb, ltb-false, ltb-true, has, except, except-at, Absent}
+use Rattle.obeys.proofs.Basis.{Consumed, cleared, raised, inward, noConnection, byName, stateOf, Row, and-both, bool-cases, true-not-false, placeOf, state, connectionAt, isConnection, isInput, itemAt, isBelow, itemsBelow}
+use Rattle.obeys.proofs.Basis.{sweptConnection, sweptConnections, sweptItems, getD-rowsOf, swept, connectionsOf, itemsOf, Desk, used-inside, Connection, consumedBelow, DeskInOrder, connectionOf, itemOf, viewOf}
 use Rattle.rules.specs.Rules as Rules
 use Rattle.obeys.proofs.Chosen.{place-found}
 use Rattle.obeys.proofs.Frame.{view-ext}
 use Rattle.obeys.proofs.Lookup.{used-view, unused-view, input-row, output-row, Holds, holds-of, same-place}
 use Rattle.obeys.proofs.Rows.{input-seen, ltb-max}
-use Rattle.obeys.proofs.Listed.{leaving-at}
+use Rattle.obeys.proofs.Listed.{items-below-at}
 use Rattle.obeys.proofs.Order.Tables.{thinned-row}
-use Rattle.obeys.proofs.Words.{less-was, less-kept, less-stays}
+use Rattle.obeys.proofs.Words.{except-was, except-kept, except-stays}
 
-module _ (d : Desk) (o : InOrder d) (bound : ℕ) (o′ : InOrder (swept d bound)) where
+module _ (d : Desk) (o : DeskInOrder d) (bound : ℕ) (o′ : DeskInOrder (swept d bound)) where
   abbrev e : Desk
   e = swept d bound
 
   abbrev gone : ℕ
-  gone = leaving (itemsOf d) bound
+  gone = itemsBelow (itemsOf d) bound
 
   -- ---- the items
 
   -- an item that is left is as it was
-  left-item : (p : ℕ) → has (less (d .present) gone) p ≡ true → itemAt (itemsOf e) p ≡ itemAt (itemsOf d) p
+  left-item : (p : ℕ) → has (except (d .present) gone) p ≡ true → itemAt (itemsOf e) p ≡ itemAt (itemsOf d) p
   unfolding swept sweptItems
   left-item p held = thinned-row (o .items) (omega arith) gone p held
 
   module _ {p channel timestamp : ℕ} where
     -- what holds a pair at or above the bound does not leave
     stays : bound ≤ timestamp → Holds d o p channel timestamp → has gone p ≡ false
-    unfolding leaves
+    unfolding isBelow
     stays above h =
-        leaving-at (itemsOf d) bound (h .inside) ∙ rw (h .there) (le-ltb (itemAt (itemsOf d) p .timestamp) bound (omega (arith, h .timestamp-is)))
+        items-below-at (itemsOf d) bound (h .inside) ∙ rw (h .there) (le-ltb (itemAt (itemsOf d) p .timestamp) bound (omega (arith, h .timestamp-is)))
 
     holds-still : bound ≤ timestamp → Holds d o p channel timestamp → Holds e o′ p channel timestamp
     unfolding swept
     holds-still above h =
-        let held = less-stays (d .present) gone p (h .inside) (h .there) (stays above h) in
+        let held = except-stays (d .present) gone p (h .inside) (h .there) (stays above h) in
         record { inside = h .inside; there = held; channel-is = rw (left-item p held) (h .channel-is); timestamp-is = rw (left-item p held) (h .timestamp-is) }
 
     held-before : Holds e o′ p channel timestamp → Holds d o p channel timestamp
     unfolding swept
     held-before h =
         let same = left-item p (h .there) in
-        record { inside = h .inside; there = less-was (d .present) gone p (h .there); channel-is = rw same at (h .channel-is); timestamp-is = rw same at (h .timestamp-is) }
+        record { inside = h .inside; there = except-was (d .present) gone p (h .there); channel-is = rw same at (h .channel-is); timestamp-is = rw same at (h .timestamp-is) }
 
     -- and what is left is at or above it
     left-above : Holds e o′ p channel timestamp → timestamp < bound → ⊥
-    unfolding swept leaves
+    unfolding swept isBelow
     left-above h below =
         let was = held-before h in
         true-not-false
-        (leaving-at (itemsOf d) bound (h .inside) ∙ and-both (was .there) (lt-ltb (itemAt (itemsOf d) p .timestamp) bound (omega (arith, was .timestamp-is))))
-        (less-kept (d .present) gone p (h .there))
+        (items-below-at (itemsOf d) bound (h .inside) ∙ and-both (was .there) (lt-ltb (itemAt (itemsOf d) p .timestamp) bound (omega (arith, was .timestamp-is))))
+        (except-kept (d .present) gone p (h .there))
 
   place-same : (channel timestamp : ℕ) → bound ≤ timestamp → placeOf (itemsOf e) channel timestamp ≡ placeOf (itemsOf d) channel timestamp
   place-same channel timestamp above = same-place d o e o′ channel timestamp (λ p. holds-still above) (λ p. held-before)
@@ -84,7 +84,7 @@ module _ (d : Desk) (o : InOrder d) (bound : ℕ) (o′ : InOrder (swept d bound
   -- at or above the bound a state stays, whatever the mark
   rest-same : (row : Row) (n : ℕ) → bound ≤ n
       → cond (leb 64 (placeOf (itemsOf e) (row .channel) n)) Absent
-      (byName (has (less (row .opened) gone) (placeOf (itemsOf e) (row .channel) n)) (has (less (row .consumed) gone) (placeOf (itemsOf e) (row .channel) n)))
+      (byName (has (except (row .opened) gone) (placeOf (itemsOf e) (row .channel) n)) (has (except (row .consumed) gone) (placeOf (itemsOf e) (row .channel) n)))
       ≡ cond (leb 64 (placeOf (itemsOf d) (row .channel) n)) Absent
       (byName (has (row .opened) (placeOf (itemsOf d) (row .channel) n)) (has (row .consumed) (placeOf (itemsOf d) (row .channel) n)))
   rest-same row n above =
@@ -95,7 +95,7 @@ module _ (d : Desk) (o : InOrder d) (bound : ℕ) (o′ : InOrder (swept d bound
       let inside : p < 64 = leb-false 64 p q in
       let h = holds-of d o p (row .channel) n (place-found (itemsOf d) (row .channel) n inside) in
       let kept : has gone p ≡ false = stays above h in
-      rw (less-at (row .opened) gone inside, less-at (row .consumed) gone inside, kept, and-true (has (row .opened) p), and-true (has (row .consumed) p))))
+      rw (except-at (row .opened) gone inside, except-at (row .consumed) gone inside, kept, and-true (has (row .opened) p), and-true (has (row .consumed) p))))
 
   seen-swept : (row : Row) (n : ℕ) → state (itemsOf e) (raised (cleared row gone) bound) n ≡ cond (ltb n bound) Consumed (state (itemsOf d) row n)
   unfolding state stateOf raised cleared

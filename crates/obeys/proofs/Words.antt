@@ -1,5 +1,5 @@
 -- What is in a word of used places after a change, and what was in it before. Assumes nothing.
-use Rattle.obeys.proofs.Basis.{_∙_, _≡_, ap, sym, Bool, _&&_, false, not, true, _≢_, _<_, ℕ, ltb, ltb-true, not-true, has, less, with, without, has-less, has-with, has-without, less-at, with-other, without-other}
+use Rattle.obeys.proofs.Basis.{_∙_, _≡_, ap, sym, Bool, _&&_, false, not, true, _≢_, _<_, ℕ, ltb, ltb-true, not-true, has, except, with, without, has-except, has-with, has-without, except-at, with-other, without-other}
 use Rattle.obeys.proofs.Basis.{without-same, and-both, and-left, and-right, bool-cases, true-not-false, inUse, used-below}
 
 -- what fails makes fail whatever it follows from
@@ -34,17 +34,17 @@ without-elsewhere w p = record { was = λ i apart. without-was w p i; stays = λ
 
 -- ---- some places less
 
-less-both : (w gone i : ℕ) → has (less w gone) i ≡ true → (has w i && not (has gone i)) ≡ true
-less-both w gone i used = and-right (ltb i 64) _ (sym (has-less w gone i) ∙ used)
+except-both : (w gone i : ℕ) → has (except w gone) i ≡ true → (has w i && not (has gone i)) ≡ true
+except-both w gone i used = and-right (ltb i 64) _ (sym (has-except w gone i) ∙ used)
 
-pub less-was : (w gone i : ℕ) → has (less w gone) i ≡ true → has w i ≡ true
-less-was w gone i used = and-left (has w i) _ (less-both w gone i used)
+pub except-was : (w gone i : ℕ) → has (except w gone) i ≡ true → has w i ≡ true
+except-was w gone i used = and-left (has w i) _ (except-both w gone i used)
 
-pub less-kept : (w gone i : ℕ) → has (less w gone) i ≡ true → has gone i ≡ false
-less-kept w gone i used = not-true (has gone i) (and-right (has w i) _ (less-both w gone i used))
+pub except-kept : (w gone i : ℕ) → has (except w gone) i ≡ true → has gone i ≡ false
+except-kept w gone i used = not-true (has gone i) (and-right (has w i) _ (except-both w gone i used))
 
-pub less-stays : (w gone i : ℕ) → i < 64 → has w i ≡ true → has gone i ≡ false → has (less w gone) i ≡ true
-less-stays w gone i below used kept = less-at w gone below ∙ and-both used (ap not kept)
+pub except-stays : (w gone i : ℕ) → i < 64 → has w i ≡ true → has gone i ≡ false → has (except w gone) i ≡ true
+except-stays w gone i below used kept = except-at w gone below ∙ and-both used (ap not kept)
 
 -- ---- a used place of a table
 

@@ -39,12 +39,12 @@ abbrev pub StartsFresh : Type 0
 StartsFresh = viewOf fresh ≡ freshView
 
 -- and without a word of what is observed of a desk: over any calls and questions, the replies that the code gives are replies that the rules give:
--- `desk-gives`; and the rules give no others: `desk-gives-alone`
+-- `desk-gives`; and the rules give no others: `desk-gives-no-other`
 abbrev pub DeskGives : Type 0
 DeskGives = (requests : List Request) → PassableRequests requests → (v : View) × Gives freshView requests (repliesOf fresh requests) v
 
-abbrev pub DeskGivesAlone : Type 0
-DeskGivesAlone =
+abbrev pub DeskGivesNoOther : Type 0
+DeskGivesNoOther =
     (requests : List Request) → PassableRequests requests → (replies : List Reply) (v : View) → Gives freshView requests replies v
     → replies ≡ repliesOf fresh requests
 

@@ -32,7 +32,7 @@ pub record ConnectionInOrder (items : Table Item) (row : Connection) : Type 0 wh
   pub consumed : (place : ℕ) → has (row .consumed) place ≡ true → Stands items row place
   pub apart : (place : ℕ) → has (row .opened) place ≡ true → has (row .consumed) place ≡ false
 
-pub record InOrder (d : Desk) : Type 0 where
+pub record DeskInOrder (d : Desk) : Type 0 where
   pub threads : Tidy threadPlaces noThread (d .living) (d .threads)
   pub connections : Tidy connectionPlaces noConnection (d .attached) (d .connections)
   pub items : Tidy itemPlaces noItem (d .present) (d .items)
@@ -49,4 +49,4 @@ pub record InOrder (d : Desk) : Type 0 where
 
 -- `every-desk-in-order`
 abbrev pub EveryDeskInOrder : Type 0
-EveryDeskInOrder = (d : Desk) → Reached d → InOrder d
+EveryDeskInOrder = (d : Desk) → Reached d → DeskInOrder d

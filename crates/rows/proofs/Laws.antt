@@ -11,7 +11,7 @@ use Rattle.calls.specs.declared.State.the-variants.{Consumed}
 use Rattle.calls.specs.States.{isUnseen, isOpen, isPending}
 use Rattle.rows.specs.States.{byName, stateOf}
 use Rattle.rows.specs.Answers.{Check, refusing, refusal, answer, answered}
-use Rattle.rows.specs.Times.{lessIf}
+use Rattle.rows.specs.Times.{leastIf}
 use Rattle.words.specs.Words.{has}
 
 -- ---- yes and no
@@ -118,10 +118,10 @@ answered-none code not-short value time refused = simp (refused, not-short)
 
 -- ---- times
 
-pub less-if-true : {counts : Bool} → counts ≡ true → (time least : ℕ) → lessIf counts time least ≡ min time least
-unfolding lessIf
-less-if-true counted time least = rw counted
+pub least-if-true : {counts : Bool} → counts ≡ true → (time least : ℕ) → leastIf counts time least ≡ min time least
+unfolding leastIf
+least-if-true counted time least = rw counted
 
-pub less-if-false : {counts : Bool} → counts ≡ false → (time least : ℕ) → lessIf counts time least ≡ least
-unfolding lessIf
-less-if-false passed-over time least = rw passed-over
+pub least-if-false : {counts : Bool} → counts ≡ false → (time least : ℕ) → leastIf counts time least ≡ least
+unfolding leastIf
+least-if-false passed-over time least = rw passed-over

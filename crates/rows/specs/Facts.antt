@@ -1,7 +1,7 @@
 -- Document 01, "What a connection has seen": what sets and clears the two facts of a place, and what moves the mark. Assumes nothing.
 use Prim.Native.Nat.{ℕ, max}
 use Rattle.rows.specs.declared.Connection.{Connection}
-use Rattle.words.specs.Words.{with, without, less}
+use Rattle.words.specs.Words.{with, without, except}
 
 abbrev pub withFacts : Connection → ℕ → ℕ → Connection
 withFacts c opened consumed =
@@ -17,7 +17,7 @@ consumedByName c place = withFacts c (without (c .opened) place) (with (c .consu
 
 -- "When an item leaves the desk, both are cleared for its place on every connection."
 unfoldable pub cleared : Connection → ℕ → Connection
-cleared c gone = withFacts c (less (c .opened) gone) (less (c .consumed) gone)
+cleared c gone = withFacts c (except (c .opened) gone) (except (c .consumed) gone)
 
 -- "A raised mark leaves them as they are."
 unfoldable pub raised : Connection → ℕ → Connection

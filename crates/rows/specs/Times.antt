@@ -3,5 +3,5 @@ use mathlib.Core.Bool.{Bool, cond}
 use Prim.Native.Nat.{ℕ, min}
 
 -- the smaller of the two where the first one counts
-unfoldable pub lessIf : Bool → ℕ → ℕ → ℕ
-lessIf counts time least = cond counts (min time least) least
+unfoldable pub leastIf : Bool → ℕ → ℕ → ℕ
+leastIf counts time least = cond counts (min time least) least

@@ -33,8 +33,8 @@ impl Connection {
     pub fn cleared(mut self, gone: u64) -> Connection
         ensures { λ r. ⌜ r ≡ cleared self gone ⌝ }
     {
-        self.opened = words::less(self.opened, gone);
-        self.consumed = words::less(self.consumed, gone);
+        self.opened = words::except(self.opened, gone);
+        self.consumed = words::except(self.consumed, gone);
         self
     }
 }

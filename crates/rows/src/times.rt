@@ -1,7 +1,7 @@
 // The smaller and the larger of two times.
 ghost use mathlib.Core.Path.{_≡_};
 ghost use Prim.Native.Nat.{min, max};
-ghost use Rattle.rows.specs.Times.{lessIf};
+ghost use Rattle.rows.specs.Times.{leastIf};
 
 pub fn smaller(a: u32, b: u32) -> u32
     ensures { λ r. ⌜ r ≡ min a b ⌝ }
@@ -23,7 +23,7 @@ pub fn larger(a: u32, b: u32) -> u32
 
 // The smaller of the two where the first one counts, the second where it does not.
 pub fn least_if(counts: bool, time: u32, least: u32) -> u32
-    ensures { λ r. ⌜ r ≡ lessIf counts time least ⌝ }
+    ensures { λ r. ⌜ r ≡ leastIf counts time least ⌝ }
 {
     if counts {
         return smaller(time, least);

@@ -3,12 +3,12 @@ use Rattle.calls.specs.Questions.{Request}
 use Rattle.rules.proofs.Basis.{_≡_, sym, ap, subst, Bool, not, List, [], inl, inr, by-cases, Option·none-ne-some, ℕ, _+_, _≤_, ℕ-discrete, arith, lt-of-not-le, ltb, length, Deed, Bound, Call, by, sweep, isPut, isSweep}
 use Rattle.rules.specs.Claims.{ItemsAreListed, AccountsBalance}
 use Rattle.rules.specs.Rules.{never, View, freshView, Item, Listed, Outcome, deedRow, rule, NoneOf, Does}
-use Rattle.rules.specs.Runs.{Calls, stop, next, Reply, replyOf, Gives, ifAccepted, acceptedPuts, ticketsBack}
+use Rattle.rules.specs.Runs.{Run, stop, next, Reply, replyOf, Gives, ifAccepted, acceptedPuts, ticketsBack}
 use Rattle.rules.proofs.Made.{Made, quietly, puts, made}
 use Rattle.rules.proofs.One.{refuses-coded, all-settled}
 use Rattle.rules.proofs.OneList.{listed-one}
 use Rattle.rules.proofs.Stock.{some-of, halves, listed-below, stock-swept, stock-added}
-use Rattle.rules.proofs.Ways.{not-refused, untaken, bound-above}
+use Rattle.rules.proofs.Ways.{not-refused, untaken, bound-at-least}
 
 -- the stock after a call, against the stock before it
 pub record Tally (call : Call) (items : List Item) (out : Outcome) : Type 0 where
@@ -37,7 +37,7 @@ module _ (v : View) (items : List Item) (those : Listed v never items) where
   swept-tally : (bound : Bound) (slice : List ℕ) (out : Outcome) → rule v (sweep bound slice) .Accepts out → Tally (sweep bound slice) items out
   swept-tally bound slice out (time, handed, is, low, e) =
       let keep : Item → Bool = λ item. ltb (item .timestamp) time in
-      let same : handed ≡ some-of keep items = listed-one low (listed-below v time (bound-above {v = v} bound is .top) items those) in
+      let same : handed ≡ some-of keep items = listed-one low (listed-below v time (bound-at-least {v = v} bound is .top) items those) in
       let sum = halves keep items in
       subst (Tally (sweep bound slice) items) (sym e) (record {
         more = some-of (λ item. not (keep item)) items;
@@ -53,7 +53,7 @@ module _ (v : View) (items : List Item) (those : Listed v never items) where
   does-tally (by thread deed) out (inr (clear, accepts)) = deed-tally thread deed out (made v thread deed out accepts) (clear .1)
   does-tally (sweep bound slice) out (inr (clear, accepts)) = swept-tally bound slice out accepts
 
-over-calls : {v w : View} → Calls v w → (items : List Item) → Listed v never items → length items ≤ 64 → (more : List Item) × Listed w never more × (length more ≤ 64)
+over-calls : {v w : View} → Run v w → (items : List Item) → Listed v never items → length items ≤ 64 → (more : List Item) × Listed w never more × (length more ≤ 64)
 over-calls stop items those fits = (items, those, fits)
 over-calls (next {v} {w} call out pass does rest) items those fits =
     let t = does-tally v items those call out does in

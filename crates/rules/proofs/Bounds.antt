@@ -1,12 +1,12 @@
 -- The two bounds are there and never fall: what a call brings about was there before, or is not below a visible time. Assumes nothing.
 use Rattle.rules.proofs.Basis.{_≡_, refl, subst, _⊎_, inl, inr, ⊎-elim, none, some, Option·some-injective, Option·none-ne-some, ℕ, _≤_, _<_, ℕ-discrete, arith, le-refl, State, Unseen, Open, Consumed, Bound, Weak, Strong}
-use Rattle.rules.specs.Claims.{BoundsAreThere, BoundsNeverFall, WeakBelowStrong, Living, InOrder}
+use Rattle.rules.specs.Claims.{BoundsAreThere, BoundsNeverFall, WeakBelowStrong, Living, ViewInOrder}
 use Rattle.rules.specs.Rules.{Connection, unused, output, input, View, KeepTime, stateOn, unseenIf, Smallest, IsTime, BoundOf}
-use Rattle.rules.specs.Runs.{Calls}
-use Rattle.rules.proofs.Connections.{opens, Turn, Turned, FitsIn, Allowed, Waits, alike, freed, rests, consumes, absent-done, writes, consumed-done, reads, comes, moves}
+use Rattle.rules.specs.Runs.{Run}
+use Rattle.rules.proofs.Connections.{opens, Turn, Turned, ConnectionFitsIn, Allowed, Waits, alike, freed, rests, consumes, absent-done, writes, consumed-done, reads, comes, moves}
 use Rattle.rules.proofs.Laws.{smallest, either, exists-below, state-is, some-is, at-elim, below-elim}
 use Rattle.rules.proofs.Order.{every-view-in-order, by-calls}
-use Rattle.rules.proofs.Ways.{Pending, above-bound, Above, Kind, above-waits, above-allowed, waiting, bound-above, kind-turned, makes, sets, changes, ends, stocks, sweeps}
+use Rattle.rules.proofs.Ways.{Pending, at-least-bound, AtLeast, Kind, at-least-waits, at-least-allowed, waiting, bound-at-least, kind-turned, makes, sets, changes, ends, stocks, sweeps}
 
 -- ---- what a call brings about
 
@@ -45,23 +45,23 @@ kind-times v w (sweeps bound above) time is = inl is
 
 -- ---- so a time that is at most all of which a bound is the smallest stays so over every call
 
-pub above-kind : {least : ℕ} (bound : Bound) (v : View) → InOrder v → Above bound least v → (w : View) → Kind v w → Above bound least w
-above-kind bound v o a w kind =
-    let may = above-allowed (above-waits o bound a) in
+pub at-least-kind : {least : ℕ} (bound : Bound) (v : View) → ViewInOrder v → AtLeast bound least v → (w : View) → Kind v w → AtLeast bound least w
+at-least-kind bound v o a w kind =
+    let may = at-least-allowed (at-least-waits o bound a) in
     record {
       top = a .top;
       times = λ t q. ⊎-elim (a .times t) (may t) (kind-times v w kind t q);
       pends = λ k t q. ⊎-elim (λ (was, pended, low). omega (arith, a .pends k was pended)) (may t) (turned-earlier (kind-turned v w kind k) bound t q);
     }
 
-pub above-calls : {v w : View} {least : ℕ} (bound : Bound) → Calls v w → InOrder v → Above bound least v → Above bound least w
-above-calls {v} {w} {least} bound = by-calls (Above bound least) (above-kind bound)
+pub at-least-calls : {v w : View} {least : ℕ} (bound : Bound) → Run v w → ViewInOrder v → AtLeast bound least v → AtLeast bound least w
+at-least-calls {v} {w} {least} bound = by-calls (AtLeast bound least) (at-least-kind bound)
 
 pub bounds-never-fall : BoundsNeverFall
-bounds-never-fall v w run calls bound before now was is = above-bound bound (above-calls bound calls (every-view-in-order v run) (bound-above bound was)) is
+bounds-never-fall v w run calls bound before now was is = at-least-bound bound (at-least-calls bound calls (every-view-in-order v run) (bound-at-least bound was)) is
 
 pub weak-below-strong : WeakBelowStrong
-weak-below-strong v run weak strong lower upper = above-bound Strong (above-waits (every-view-in-order v run) Weak (bound-above Weak lower)) upper
+weak-below-strong v run weak strong lower upper = at-least-bound Strong (at-least-waits (every-view-in-order v run) Weak (bound-at-least Weak lower)) upper
 
 -- ---- they are there
 
@@ -71,12 +71,12 @@ pending-is Weak time (output t c) = no (λ q. q)
 pending-is Weak time (input t c m s) = ℕ-discrete time m
 pending-is Strong time c = either (state-is Unseen (stateOn c time)) (state-is Open (stateOn c time))
 
-keeps-inside : (v : View) (k mark : ℕ) (c : Connection) → FitsIn v k c → KeepTime c mark → (k < 32) × ((t : ℕ) × Living (v .thread) t)
+keeps-inside : (v : View) (k mark : ℕ) (c : Connection) → ConnectionFitsIn v k c → KeepTime c mark → (k < 32) × ((t : ℕ) × Living (v .thread) t)
 keeps-inside v k mark unused f q = absurd q
 keeps-inside v k mark (output t c) f q = absurd q
 keeps-inside v k mark (input t c m s) f q = (f .0, (t, f .1))
 
-module _ (v : View) (o : InOrder v) where
+module _ (v : View) (o : ViewInOrder v) where
   pub pending-inside : (bound : Bound) (k time : ℕ) → Pending bound (v .connection k) time → (k < 32) × ((t : ℕ) × Living (v .thread) t)
   pending-inside Weak k time q = keeps-inside v k time (v .connection k) (o .connections k) q
   pending-inside Strong k time q = let w = waiting v o k time q in (w .inside, (w .thread, w .living))

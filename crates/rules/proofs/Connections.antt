@@ -1,6 +1,6 @@
 -- One connection: under every change what it sees is in order, and no state goes back. Assumes nothing.
 use Rattle.rules.proofs.Basis.{_≡_, _∙_, refl, sym, ap, subst, Bool, true, false, cond, _⊎_, ⊎-elim, _≢_, Option, none, some, Option·some-injective, ℕ, max, _≤_, _<_, arith, le-refl, eqb, ltb, eqb-false, eq-eqb, ne-eqb, lt-ltb, le-ltb, State, Absent, Unseen, Open, Consumed, stateNumber}
-use Rattle.rules.specs.Claims.{Fits, Living, Sees}
+use Rattle.rules.specs.Claims.{ConnectionFits, Living, Sees}
 use Rattle.rules.specs.Rules.{never, Connection, unused, output, input, View, at, stateOn, seenAs, consumedBelow, noticed, noticing, firstSeen, freedFrom, VisibleTime, withItem, ended, owner}
 use Rattle.rules.proofs.Laws.{cond-elim, at-elim, below-elim, not-below, not-none, at-other, option-cases}
 
@@ -82,35 +82,35 @@ freed-elim P thread (input t c m s) f g = cond-elim P (eqb t thread) unused (inp
 
 -- ---- it fits after each change, with this number in this view
 
-abbrev pub FitsIn : View → ℕ → Connection → Type 0
-FitsIn v k c = Fits (v .thread) (v .channel) (v .item) k c
+abbrev pub ConnectionFitsIn : View → ℕ → Connection → Type 0
+ConnectionFitsIn v k c = ConnectionFits (v .thread) (v .channel) (v .item) k c
 
 module _ (v : View) (k : ℕ) where
   pub fits-on : (T : ℕ → Option ℕ) (C : ℕ → Bool) (c : Connection) → ((t : ℕ) → owner c ≡ some t → Living (v .thread) t → Living T t) → ((n : ℕ) → v .channel n ≡ true → C n ≡ true)
-      → FitsIn v k c → Fits T C (v .item) k c
+      → ConnectionFitsIn v k c → ConnectionFits T C (v .item) k c
   fits-on T C unused living exists f = tt
   fits-on T C (output t c) living exists (inside, l, e) = (inside, living t refl l, exists c e)
   fits-on T C (input t c m s) living exists (inside, l, e, top, sees) = (inside, living t refl l, exists c e, top, sees)
 
-  pub fits-seen-as : (state : State) (timestamp : ℕ) → 0 < stateNumber state → (c : Connection) → Waits (stateOn c timestamp) → FitsIn v k c → FitsIn v k (seenAs state timestamp c)
+  pub fits-seen-as : (state : State) (timestamp : ℕ) → 0 < stateNumber state → (c : Connection) → Waits (stateOn c timestamp) → ConnectionFitsIn v k c → ConnectionFitsIn v k (seenAs state timestamp c)
   fits-seen-as state timestamp there unused waits f = tt
   fits-seen-as state timestamp there (output t c) waits f = f
   fits-seen-as state timestamp there (input t c m s) waits (inside, l, e, top, sees) = (inside, l, e, top, sees-as (v .item c) m s sees state timestamp waits there)
 
   pub fits-raised : (now : ℕ → ℕ → Option ℕ) (bound : ℕ) → bound ≤ never → ((c timestamp : ℕ) → bound ≤ timestamp → now c timestamp ≡ v .item c timestamp)
-      → (c : Connection) → FitsIn v k c → Fits (v .thread) (v .channel) now k (consumedBelow bound c)
+      → (c : Connection) → ConnectionFitsIn v k c → ConnectionFits (v .thread) (v .channel) now k (consumedBelow bound c)
   fits-raised now bound small same unused f = tt
   fits-raised now bound small same (output t c) f = f
   fits-raised now bound small same (input t c m s) (inside, l, e, top, sees) = (inside, l, e, omega arith, sees-raised (v .item c) m s sees (now c) bound (same c))
 
-  pub fits-noticing : (channel timestamp ticket : ℕ) (c : Connection) → FitsIn v k c → FitsIn (withItem v channel timestamp ticket) k (noticing channel timestamp c)
+  pub fits-noticing : (channel timestamp ticket : ℕ) (c : Connection) → ConnectionFitsIn v k c → ConnectionFitsIn (withItem v channel timestamp ticket) k (noticing channel timestamp c)
   fits-noticing channel timestamp ticket unused f = tt
   fits-noticing channel timestamp ticket (output t c) f = f
   fits-noticing channel timestamp ticket (input t c m s) (inside, l, e, top, sees) =
       (inside, l, e, top, sees-if (v .item c) m s sees (eqb c channel) timestamp ticket)
 
-  pub fits-freed : (thread : ℕ) (c : Connection) → FitsIn v k c → FitsIn (ended v thread) k (freedFrom thread c)
-  fits-freed thread c f = freed-elim (FitsIn (ended v thread) k) thread c tt
+  pub fits-freed : (thread : ℕ) (c : Connection) → ConnectionFitsIn v k c → ConnectionFitsIn (ended v thread) k (freedFrom thread c)
+  fits-freed thread c f = freed-elim (ConnectionFitsIn (ended v thread) k) thread c tt
       (λ other. fits-on (at (v .thread) thread none) (v .channel) c (λ t own (time, l). (time, at-other (v .thread) thread none t (λ e. other (own ∙ ap some e)) ∙ l)) (λ n e. e) f)
 
 -- ---- it goes forward

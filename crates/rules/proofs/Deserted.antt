@@ -1,8 +1,8 @@
 -- Without a living thread every call that names one meets 1, its first refusal, and so none comes to life; and both bounds are never. Assumes nothing.
 use Rattle.rules.proofs.Basis.{_≡_, refl, sym, subst, true≢false, _⊎_, inl, inr, ⊎-elim, none, ℕ, arith, le-refl, Bound, Weak, Strong, Call, by, sweep}
-use Rattle.rules.specs.Claims.{RefusedWithoutThreads, InOrder, NeverWithoutThreads}
+use Rattle.rules.specs.Claims.{RefusedWithoutThreads, ViewInOrder, NeverWithoutThreads}
 use Rattle.rules.specs.Rules.{View, Outcome, Does, Smallest, IsTime, never}
-use Rattle.rules.specs.Runs.{Calls, stop, next}
+use Rattle.rules.specs.Runs.{Run, stop, next}
 use Rattle.rules.proofs.Bounds.{pending-inside}
 use Rattle.rules.proofs.Laws.{not-none}
 use Rattle.rules.proofs.Order.{every-view-in-order}
@@ -16,7 +16,7 @@ dead-does v dead call out (inl (refused, view, lent)) = subst Dead (sym view) de
 dead-does v dead (by thread deed) out (inr (clear, accepts)) = absurd (clear .0 0 0 (dead thread, refl, refl))
 dead-does v dead (sweep bound slice) out (inr (clear, (time, items, is, those, e))) = subst (λ (x : Outcome). Dead (x .view)) (sym e) dead
 
-dead-calls : {v w : View} → Calls v w → Dead v → Dead w
+dead-calls : {v w : View} → Run v w → Dead v → Dead w
 dead-calls stop dead = dead
 dead-calls (next {v} {w} call out fits does rest) dead = dead-calls rest (dead-does v dead call out does)
 
@@ -28,7 +28,7 @@ refused-without-threads v w dead run (sweep bound slice) quiet out does = absurd
 
 -- ---- and with nobody there nothing pends
 
-deserted : (v : View) → InOrder v → Dead v → (bound : Bound) → Smallest (λ time. IsTime v time ⊎ ((k : ℕ) × Pending bound (v .connection k) time)) never
+deserted : (v : View) → ViewInOrder v → Dead v → (bound : Bound) → Smallest (λ time. IsTime v time ⊎ ((k : ℕ) × Pending bound (v .connection k) time)) never
 deserted v o dead bound = record {
   at-most-never = le-refl never;
   at-most-each = λ time. ⊎-elim (λ (t, q). absurd (not-none q (dead t))) (λ (k, q). (let (inside, (t, (x, lives))) = pending-inside v o bound k time q in absurd (not-none lives (dead t))));

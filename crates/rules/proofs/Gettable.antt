@@ -1,22 +1,22 @@
 -- What could be got: nothing below the strong bound, for no call lowers it; and all else, by a thread whose visible time is low. Assumes nothing.
 use Rattle.rules.proofs.Basis.{_≡_, _∙_, refl, sym, ap, subst, false, true≢false, [], _⊎_, inl, inr, ⊎-elim, by-cases, some, Option·none-ne-some, ℕ, _≤_, _<_, ℕ-discrete, arith, le-ltb, Unseen, Open, Which, Named, Strong, Call, get, attach-input, detach, isSweep, Passable}
-use Rattle.rules.specs.Claims.{Living, InOrder, GetsWhatIsPresent}
+use Rattle.rules.specs.Claims.{Living, ViewInOrder, GetsWhatIsPresent}
 use Rattle.rules.specs.Rules.{Connection, unused, output, input, View, withConnection, owner, inputFrom, stateOn, seenAs, firstSeen, VisibleTime, StrongBound, Item, IsPresent, FreeConnection, Outcome, done, Lowest, rule, NoneOf, at, Does}
-use Rattle.rules.specs.Runs.{Further, CouldBeGot, Calls}
-use Rattle.rules.proofs.Bounds.{above-calls}
+use Rattle.rules.specs.Runs.{Further, CouldBeGot, Run}
+use Rattle.rules.proofs.Bounds.{at-least-calls}
 use Rattle.rules.proofs.Connections.{Waits}
 use Rattle.rules.proofs.Laws.{_and_, at-other, not-none, Found, some-one, at-same, search-below}
 use Rattle.rules.proofs.One.{accepted}
 use Rattle.rules.proofs.Order.{does-in-order}
-use Rattle.rules.proofs.Ways.{Waiting, visible-time, owned-fits, waiting, Above, takes-fits}
+use Rattle.rules.proofs.Ways.{Waiting, visible-time, owned-fits, waiting, AtLeast, takes-fits}
 
 -- ---- what is below the strong bound is never got again
 
-further-calls : {v w : View} → Further v w → Calls v w
-further-calls Further.stop = Calls.stop
-further-calls (Further.next call out fits quiet does ok rest) = Calls.next call out fits does (further-calls rest)
+further-calls : {v w : View} → Further v w → Run v w
+further-calls Further.stop = Run.stop
+further-calls (Further.next call out fits quiet does ok rest) = Run.next call out fits does (further-calls rest)
 
-got-above : {bound : ℕ} {v : View} → Above Strong bound v → (thread connection : ℕ) (which : Which) (out : Outcome) → Does v (get thread connection which) out → out .code ≡ 0
+got-above : {bound : ℕ} {v : View} → AtLeast Strong bound v → (thread connection : ℕ) (which : Which) (out : Outcome) → Does v (get thread connection which) out → out .code ≡ 0
     → bound ≤ out .time
 got-above {bound} {v} a thread connection which out does ok =
     let (channel, timestamp, ticket, from, takes, there, e) = accepted v (get thread connection which) out does ok .1 in
@@ -27,16 +27,16 @@ gets-what-is-present v thread connection which out does ok =
     let (channel, timestamp, ticket, from, takes, there, e) = accepted v (get thread connection which) out does ok .1 in
     (channel, from, subst (λ (x : Outcome). v .item channel (x .time) ≡ some (x .value)) (sym e) there)
 
-pub lost : {bound : ℕ} {v : View} → InOrder v → Above Strong bound v → (item : Item) → item .timestamp < bound → CouldBeGot v item → ⊥
+pub lost : {bound : ℕ} {v : View} → ViewInOrder v → AtLeast Strong bound v → (item : Item) → item .timestamp < bound → CouldBeGot v item → ⊥
 lost {bound} {v} o a item below g =
-    omega (arith, g .timestamp, got-above (above-calls Strong (further-calls (g .run)) o a) (g .thread) (g .connection) (g .which) (g .outcome) (g .does) (g .accepted))
+    omega (arith, g .timestamp, got-above (at-least-calls Strong (further-calls (g .run)) o a) (g .thread) (g .connection) (g .which) (g .outcome) (g .does) (g .accepted))
 
 -- ---- what is not below it is got, from a start by accepted calls other than sweeps
 
 -- a view in order to which a start leads by accepted calls other than sweeps
 record Led (start v : View) : Type 0 where
   on : (later : View) → Further v later → Further start later
-  order : InOrder v
+  order : ViewInOrder v
 
 -- a call that is accepted with this outcome, with numbers that a program can pass
 abbrev Ready : View → Call → Outcome → Type 0
@@ -53,7 +53,7 @@ led-on {start} {v} led call quiet out ok (fits, clear, accepts) = record {
 abbrev gotOutcome : View → ℕ → ℕ → ℕ → Outcome
 gotOutcome v k timestamp ticket = done ticket timestamp (withConnection v k (seenAs Open timestamp (v .connection k))) []
 
-get-ready : (v : View) → InOrder v → (k timestamp : ℕ) → stateOn (v .connection k) timestamp ≡ Unseen → (w : Waiting v k timestamp)
+get-ready : (v : View) → ViewInOrder v → (k timestamp : ℕ) → stateOn (v .connection k) timestamp ≡ Unseen → (w : Waiting v k timestamp)
     → Ready v (get (w .thread) k (Named timestamp)) (gotOutcome v k timestamp (w .ticket))
 get-ready v o k timestamp unseen w =
     let (time, lives) = w .living in
@@ -157,7 +157,7 @@ module _ (start : View) (item : Item) (thread time : ℕ) (early : time ≤ item
 
 -- ---- an UNSEEN item is got, and so its owner's visible time is low
 
-waiting-gets : (v : View) → InOrder v → (item : Item) → IsPresent v item → (k time : ℕ) → Waits (stateOn (v .connection k) time) → time ≤ item .timestamp → CouldBeGot v item
+waiting-gets : (v : View) → ViewInOrder v → (item : Item) → IsPresent v item → (k time : ℕ) → Waits (stateOn (v .connection k) time) → time ≤ item .timestamp → CouldBeGot v item
 waiting-gets v o item here k time (inr opened) early =
     let w = waiting v o k time (inr opened) in
     low-gets v item (w .thread) time early v (record { on = λ later run. run; order = o }) here (w .living) (inr (k, ap owner (w .is), opened))
@@ -168,7 +168,7 @@ waiting-gets v o item here k time (inl unseen) early =
     low-gets v item (w .thread) time early (out .view) (led-on (record { on = λ later run. run; order = o }) (get (w .thread) k (Named time)) refl out refl (get-ready v o k time unseen w)) here (w .living)
     (inr (k, ap owner row, ap (λ (c : Connection). stateOn c time) row ∙ at-same (w .seen) time Open))
 
-pub gettable : (v : View) → InOrder v → (bound : ℕ) → StrongBound v bound → (item : Item) → IsPresent v item → bound ≤ item .timestamp → CouldBeGot v item
+pub gettable : (v : View) → ViewInOrder v → (bound : ℕ) → StrongBound v bound → (item : Item) → IsPresent v item → bound ≤ item .timestamp → CouldBeGot v item
 gettable v o bound is item here early =
     ⊎-elim
     (λ (t, lives). low-gets v item t bound early v (record { on = λ later run. run; order = o }) here (bound, lives) (inl lives))

@@ -104,9 +104,9 @@ accepts-one v (by thread (Put connection timestamp ticket)) o p (c, into, e) (b,
     e ∙ ap (λ (x : ℕ). done 0 0 (withItem v x timestamp ticket) []) (some-one into into′) ∙ sym e′
 accepts-one v (by thread (Get connection which)) o p (c, t, n, from, takes, there, e) (b, u, m, from′, takes′, there′, e′) =
     let channel : c ≡ b = some-one from from′ in
-    let when : t ≡ u = takes-one which _ t u takes takes′ in
-    let ticket : n ≡ m = some-one (there) (ap₂ (v .item) channel when ∙ there′) in
-    e ∙ ap₂ (λ (x y : ℕ). done x y (withConnection v connection (seenAs Open y (v .connection connection))) []) ticket when ∙ sym e′
+    let same-time : t ≡ u = takes-one which _ t u takes takes′ in
+    let ticket : n ≡ m = some-one (there) (ap₂ (v .item) channel same-time ∙ there′) in
+    e ∙ ap₂ (λ (x y : ℕ). done x y (withConnection v connection (seenAs Open y (v .connection connection))) []) ticket same-time ∙ sym e′
 accepts-one v (by thread (Consume connection timestamp)) o p e e′ = e ∙ sym e′
 accepts-one v (by thread (ConsumeUntil connection timestamp)) o p e e′ = e ∙ sym e′
 accepts-one v (sweep bound slice) o p (time, items, is, those, e) (time′, items′, is′, those′, e′) =

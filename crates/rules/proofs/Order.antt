@@ -1,13 +1,13 @@
 -- Every view that calls reach is in order: the fresh one is, and each of the six ways keeps it so. Assumes nothing.
 use Rattle.rules.proofs.Basis.{_≡_, _∙_, refl, sym, ap, subst, true, cond, true≢false, none, some, Option·none-ne-some, ℕ, _≤_, _<_, arith, ltb, le-ltb, Call, Ticket, Passable}
-use Rattle.rules.specs.Claims.{InOrder, EveryViewInOrder}
+use Rattle.rules.specs.Claims.{ViewInOrder, EveryViewInOrder}
 use Rattle.rules.specs.Rules.{never, View, at, freshView, Outcome, Does}
-use Rattle.rules.specs.Runs.{Calls, stop, next}
-use Rattle.rules.proofs.Connections.{fits-on, FitsIn, fits-freed, fits-noticing, fits-raised}
+use Rattle.rules.specs.Runs.{Run, stop, next}
+use Rattle.rules.proofs.Connections.{fits-on, ConnectionFitsIn, fits-freed, fits-noticing, fits-raised}
 use Rattle.rules.proofs.Laws.{at-elim, item-elim, below-elim}
 use Rattle.rules.proofs.Ways.{Kind, by-kind, makes, sets, changes, ends, stocks, sweeps}
 
-pub kind-in-order : (v : View) → InOrder v → (w : View) → Kind v w → InOrder w
+pub kind-in-order : (v : View) → ViewInOrder v → (w : View) → Kind v w → ViewInOrder w
 kind-in-order v o w (makes number inside) =
     let more : (c : ℕ) → v .channel c ≡ true → at (v .channel) number true c ≡ true = λ c h. at-elim (λ b. b ≡ true) (v .channel) number true c (λ e. refl) (λ ne. h) in
     record {
@@ -27,7 +27,7 @@ kind-in-order v o w (sets number time inside top may) = record {
 kind-in-order v o w (changes number new fits turned) = record {
   threads = o .threads;
   channels = o .channels;
-  connections = λ k. at-elim (FitsIn v k) (v .connection) number new k (λ e. subst (λ (n : ℕ). FitsIn v n new) (sym e) fits) (λ ne. o .connections k);
+  connections = λ k. at-elim (ConnectionFitsIn v k) (v .connection) number new k (λ e. subst (λ (n : ℕ). ConnectionFitsIn v n new) (sym e) fits) (λ ne. o .connections k);
   items = o .items;
 }
 kind-in-order v o w (ends thread) = record {
@@ -41,7 +41,7 @@ kind-in-order v o w (stocks channel timestamp ticket exists early carried may la
   channels = o .channels;
   connections = λ k. fits-noticing v k channel timestamp ticket (v .connection k) (o .connections k);
   items = λ c t n. item-elim (λ i. i ≡ some n → (v .channel c ≡ true) × (t < never) × Ticket n) v channel timestamp ticket c t
-      (λ same when h. (let q : ticket ≡ n = cc in (ap (v .channel) same ∙ exists, omega arith, subst Ticket q carried))) (o .items c t n);
+      (λ same same-time h. (let q : ticket ≡ n = cc in (ap (v .channel) same ∙ exists, omega arith, subst Ticket q carried))) (o .items c t n);
 }
 kind-in-order v o w (sweeps bound above) = record {
   threads = o .threads;
@@ -51,10 +51,10 @@ kind-in-order v o w (sweeps bound above) = record {
       (λ under h. absurd (Option·none-ne-some n h)) (λ over. o .items c t n);
 }
 
-pub does-in-order : (v : View) → InOrder v → (call : Call) → Passable call → (out : Outcome) → Does v call out → InOrder (out .view)
-does-in-order v o = by-kind v o InOrder o (kind-in-order v o)
+pub does-in-order : (v : View) → ViewInOrder v → (call : Call) → Passable call → (out : Outcome) → Does v call out → ViewInOrder (out .view)
+does-in-order v o = by-kind v o ViewInOrder o (kind-in-order v o)
 
-fresh-in-order : InOrder freshView
+fresh-in-order : ViewInOrder freshView
 fresh-in-order = record {
   threads = λ t x. at-elim (λ s. s ≡ some x → (t < 16) × (x ≤ never)) (λ _. none) 0 (some 0) t
       (λ e h. (let q : 0 ≡ x = cc in (omega arith, omega arith))) (λ ne h. absurd (Option·none-ne-some x h));
@@ -64,13 +64,13 @@ fresh-in-order = record {
 }
 
 -- what the six ways keep holds after any calls
-pub by-calls : (P : View → Type 0) → ((v : View) → InOrder v → P v → (w : View) → Kind v w → P w) → {v w : View} → Calls v w → InOrder v → P v → P w
+pub by-calls : (P : View → Type 0) → ((v : View) → ViewInOrder v → P v → (w : View) → Kind v w → P w) → {v w : View} → Run v w → ViewInOrder v → P v → P w
 by-calls P each stop o here = here
 by-calls P each (next {v} {w} call out fits does rest) o here =
     by-calls P each rest (does-in-order v o call fits out does) (by-kind v o P here (each v o here) call fits out does)
 
-pub calls-in-order : {v w : View} → Calls v w → InOrder v → InOrder w
-calls-in-order calls o = by-calls InOrder (λ v o here. kind-in-order v o) calls o o
+pub calls-in-order : {v w : View} → Run v w → ViewInOrder v → ViewInOrder w
+calls-in-order calls o = by-calls ViewInOrder (λ v o here. kind-in-order v o) calls o o
 
 pub every-view-in-order : EveryViewInOrder
 every-view-in-order v run = calls-in-order run fresh-in-order

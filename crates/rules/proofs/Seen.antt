@@ -2,11 +2,11 @@
 use Rattle.rules.proofs.Basis.{_≡_, refl, sym, subst, _≢_, none, some, Option·some-injective, ℕ, _≤_, arith, le-refl, State, Absent, Unseen, Open, Consumed, stateNumber}
 use Rattle.rules.specs.Claims.{Forward, Sees, EveryInputSees, SeenMovesForward}
 use Rattle.rules.specs.Rules.{Connection, unused, output, input, View, inputFrom, KeepTime, stateOn}
-use Rattle.rules.proofs.Connections.{opens, Turned, Turn, FitsIn, rests, alike, freed, consumes, writes, comes, reads, moves}
+use Rattle.rules.proofs.Connections.{opens, Turned, Turn, ConnectionFitsIn, rests, alike, freed, consumes, writes, comes, reads, moves}
 use Rattle.rules.proofs.Order.{every-view-in-order}
 use Rattle.rules.proofs.Ways.{by-kind, kind-turned}
 
-fits-sees : (v : View) (k channel mark : ℕ) (c : Connection) → FitsIn v k c → inputFrom c ≡ some channel → KeepTime c mark → Sees (v .item channel) mark (stateOn c)
+fits-sees : (v : View) (k channel mark : ℕ) (c : Connection) → ConnectionFitsIn v k c → inputFrom c ≡ some channel → KeepTime c mark → Sees (v .item channel) mark (stateOn c)
 fits-sees v k channel mark unused f from keeps = absurd keeps
 fits-sees v k channel mark (output t c) f from keeps = absurd keeps
 fits-sees v k channel mark (input t c m s) f from keeps =

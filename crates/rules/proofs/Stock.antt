@@ -1,12 +1,12 @@
 -- The items present are one list in line; a put adds one item, a sweep takes those below its bound. Assumes nothing.
 use Rattle.rules.proofs.Basis.{_≡_, _∙_, refl, sym, ap, ap₂, subst, Bool, true, false, cond, not, true≢false, List, [], _∷_, _⊎_, inl, inr, ⊎-elim, _↔_, by-cases, none, some, Option·none-ne-some, ℕ, suc, _+_, _≤_, _<_, decLt, arith, ltb, length, not-true, eq-eqb, ltb-true, lt-ltb}
 use Rattle.rules.proofs.Basis.{le-ltb, Bound}
-use Rattle.rules.specs.Claims.{InOrder}
+use Rattle.rules.specs.Claims.{ViewInOrder}
 use Rattle.rules.specs.Rules.{never, View, Item, _∈_, Before, InLine, Listed, withItem, swept, IsPresent, BoundOf}
 use Rattle.rules.proofs.Bounds.{bound-is-there}
 use Rattle.rules.proofs.Laws.{cond-elim, not-none, below-elim}
 use Rattle.rules.proofs.Made.{withItem-keeps, withItem-brings}
-use Rattle.rules.proofs.Ways.{bound-above}
+use Rattle.rules.proofs.Ways.{bound-at-least}
 
 -- ---- before
 
@@ -143,7 +143,7 @@ stock-added v channel timestamp ticket early lacks items those =
     )
 
 -- the items below either bound
-pub low-items : (v : View) → InOrder v → (items : List Item) → Listed v never items → (bound : Bound) → (time : ℕ) × (low : List Item) × BoundOf v bound time × Listed v time low
+pub low-items : (v : View) → ViewInOrder v → (items : List Item) → Listed v never items → (bound : Bound) → (time : ℕ) × (low : List Item) × BoundOf v bound time × Listed v time low
 low-items v o items those bound =
     let (time, is) = bound-is-there v o bound in
-    (time, some-of (λ item. ltb (item .timestamp) time) items, is, listed-below v time (bound-above {v = v} bound is .top) items those)
+    (time, some-of (λ item. ltb (item .timestamp) time) items, is, listed-below v time (bound-at-least {v = v} bound is .top) items those)

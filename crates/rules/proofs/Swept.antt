@@ -11,7 +11,7 @@ use Rattle.rules.proofs.Laws.{smallest-one, below-elim, not-below}
 use Rattle.rules.proofs.One.{below-one, accepted, does-one-thing}
 use Rattle.rules.proofs.Order.{every-view-in-order, kind-in-order}
 use Rattle.rules.proofs.Stock.{low-items}
-use Rattle.rules.proofs.Ways.{bound-above, Above, above-waits, sweeps}
+use Rattle.rules.proofs.Ways.{bound-at-least, AtLeast, at-least-waits, sweeps}
 
 -- ---- what a sweep hands back, where these are the items below its bound
 
@@ -48,7 +48,7 @@ swept-exactly-the-unreachable v run =
       items = items;
       hands-back = hands-back v Strong time is items those;
       exactly = λ item. (
-        λ listed. (let (here, below) = those .exactly item .0 listed in (here, lost o (bound-above Strong is) item below)),
+        λ listed. (let (here, below) = those .exactly item .0 listed in (here, lost o (bound-at-least Strong is) item below)),
         λ (here, unreachable). those .exactly item .1 (here, lt-of-not-le (λ late. unreachable (gettable v o time is item here late))),
       );
       kept = λ item here unlisted. gettable v o time is item here (not-below (λ below. unlisted (those .exactly item .1 (here, below))));
@@ -63,7 +63,7 @@ weakly-swept-only-the-unreachable v run =
       items = items;
       hands-back = hands-back v Weak time is items those;
       below = λ bound is′. subst (λ (x : ℕ). (item : Item) → (item ∈ items) ↔ (IsPresent v item × (item .timestamp < x))) (smallest-one is is′) (those .exactly);
-      only = λ item listed. lost o (above-waits o Weak (bound-above Weak is)) item (those .exactly item .0 listed .1);
+      only = λ item listed. lost o (at-least-waits o Weak (bound-at-least Weak is)) item (those .exactly item .0 listed .1);
     }
 
 -- ---- what a sweep leaves
@@ -74,7 +74,7 @@ state-above time timestamp (output t c) above = refl
 state-above time timestamp (input t c m s) above = rw (le-ltb timestamp time above)
 
 -- the strong bound is not above what it was: what it was taken of is there as before
-still-low : (v : View) (time strong now : ℕ) → Above Strong time v → StrongBound v strong → strong < never → StrongBound (swept v time) now → now ≤ strong
+still-low : (v : View) (time strong now : ℕ) → AtLeast Strong time v → StrongBound v strong → strong < never → StrongBound (swept v time) now → now ≤ strong
 still-low v time strong now above was under is =
     ⊎-elim (λ lives. is .at-most-each strong (inl lives))
     (λ (k, waits). is .at-most-each strong (inr (k, subst Waits (sym (state-above time strong (v .connection k) (above .pends k strong waits))) waits)))
@@ -84,13 +84,13 @@ pub sweeps-spare-the-rest : SweepsSpareTheRest
 sweeps-spare-the-rest v run bound slice fits out does ok =
     let o = every-view-in-order v run in
     let (time, items, is, those, e) = accepted v (sweep bound slice) out does ok .1 in
-    let above = above-waits o bound (bound-above bound is) in
+    let above = at-least-waits o bound (bound-at-least bound is) in
     let o′ = kind-in-order v o (swept v time) (sweeps time above) in
     let (strong, was) = bound-is-there v o Strong in
     let (now, after) = bound-is-there (swept v time) o′ Strong in
     let spared : (item : Item) → IsPresent (swept v time) item → CouldBeGot v item → CouldBeGot (swept v time) item = λ item here got. (
     let early = o′ .items (item .channel) (item .timestamp) (item .ticket) here .1 in
-    let low : strong ≤ item .timestamp = not-below (λ below. lost o (bound-above Strong was) item below got) in
+    let low : strong ≤ item .timestamp = not-below (λ below. lost o (bound-at-least Strong was) item below got) in
     gettable (swept v time) o′ now after item here (omega (arith, still-low v time strong now above was (omega arith) after))) in
     subst (λ (x : Outcome). ((item : Item) → IsPresent (x .view) item → CouldBeGot v item → CouldBeGot (x .view) item)
     × ((connection timestamp : ℕ) → x .time ≤ timestamp → stateOn (x .view .connection connection) timestamp ≡ stateOn (v .connection connection) timestamp)) (sym e)

@@ -1,43 +1,43 @@
 -- No pair of channel and timestamp is accepted twice: its item is there, or it left and the pair's time is past for good. Assumes nothing.
 use Rattle.rules.proofs.Basis.{_≡_, _∙_, refl, sym, ap₂, subst, _⊎_, inl, inr, ⊎-elim, none, some, ℕ, suc, _≤_, arith, eq-eqb, Strong, put}
-use Rattle.rules.specs.Claims.{InOrder, PutBy, ComesBackAsPut, NoPairTwice}
+use Rattle.rules.specs.Claims.{ViewInOrder, PutBy, ComesBackAsPut, NoPairTwice}
 use Rattle.rules.specs.Rules.{View, Outcome}
-use Rattle.rules.specs.Runs.{Calls, Reachable}
-use Rattle.rules.proofs.Bounds.{above-kind}
+use Rattle.rules.specs.Runs.{Run, Reachable}
+use Rattle.rules.proofs.Bounds.{at-least-kind}
 use Rattle.rules.proofs.Connections.{Allowed}
 use Rattle.rules.proofs.Laws.{some-one, not-none, item-elim, below-elim}
 use Rattle.rules.proofs.One.{accepted}
 use Rattle.rules.proofs.Order.{does-in-order, calls-in-order, every-view-in-order, by-calls}
-use Rattle.rules.proofs.Ways.{not-refused, allowed, Above, above-allowed, Kind, makes, sets, changes, ends, stocks, sweeps}
+use Rattle.rules.proofs.Ways.{not-refused, allowed, AtLeast, at-least-allowed, Kind, makes, sets, changes, ends, stocks, sweeps}
 
-above-less : {bound less : ℕ} {v : View} → less ≤ bound → Above Strong bound v → Above Strong less v
-above-less small a = record { top = omega (arith, a .top); times = λ t q. omega (arith, a .times t q); pends = λ k t q. omega (arith, a .pends k t q) }
+at-least-smaller : {bound smaller : ℕ} {v : View} → smaller ≤ bound → AtLeast Strong bound v → AtLeast Strong smaller v
+at-least-smaller small a = record { top = omega (arith, a .top); times = λ t q. omega (arith, a .times t q); pends = λ k t q. omega (arith, a .pends k t q) }
 
 -- the pair was put with this ticket: the item is there, or it left and the time is past
 abbrev Spent : ℕ → ℕ → ℕ → View → Type 0
-Spent channel timestamp ticket v = (v .item channel timestamp ≡ some ticket) ⊎ ((v .item channel timestamp ≡ none) × Above Strong (suc timestamp) v)
+Spent channel timestamp ticket v = (v .item channel timestamp ≡ some ticket) ⊎ ((v .item channel timestamp ≡ none) × AtLeast Strong (suc timestamp) v)
 
 -- what a call does to a pair's place: nothing; or it was free, and a visible time allows its time; or a sweep frees it, and its time is past
 place-kind : (v w : View) → Kind v w → (channel timestamp : ℕ) → (w .item channel timestamp ≡ v .item channel timestamp)
-    ⊎ (((v .item channel timestamp ≡ none) × Allowed v timestamp) ⊎ ((w .item channel timestamp ≡ none) × Above Strong (suc timestamp) v))
+    ⊎ (((v .item channel timestamp ≡ none) × Allowed v timestamp) ⊎ ((w .item channel timestamp ≡ none) × AtLeast Strong (suc timestamp) v))
 place-kind v w (makes number inside) channel timestamp = inl refl
 place-kind v w (sets number time inside top may) channel timestamp = inl refl
 place-kind v w (changes number new fits turned) channel timestamp = inl refl
 place-kind v w (ends thread) channel timestamp = inl refl
 place-kind v w (stocks c n t exists early carried may lacks) channel timestamp =
-    item-elim (λ i. (i ≡ v .item channel timestamp) ⊎ (((v .item channel timestamp ≡ none) × Allowed v timestamp) ⊎ ((i ≡ none) × Above Strong (suc timestamp) v))) v c n t channel timestamp
-    (λ same when. inr (inl (ap₂ (v .item) same when ∙ lacks, subst (Allowed v) (sym when) may))) (inl refl)
+    item-elim (λ i. (i ≡ v .item channel timestamp) ⊎ (((v .item channel timestamp ≡ none) × Allowed v timestamp) ⊎ ((i ≡ none) × AtLeast Strong (suc timestamp) v))) v c n t channel timestamp
+    (λ same same-time. inr (inl (ap₂ (v .item) same same-time ∙ lacks, subst (Allowed v) (sym same-time) may))) (inl refl)
 place-kind v w (sweeps bound above) channel timestamp =
-    below-elim (λ i. (i ≡ v .item channel timestamp) ⊎ (((v .item channel timestamp ≡ none) × Allowed v timestamp) ⊎ ((i ≡ none) × Above Strong (suc timestamp) v)))
-    timestamp bound none (v .item channel timestamp) (λ under. inr (inr (refl, above-less under above))) (λ over. inl refl)
+    below-elim (λ i. (i ≡ v .item channel timestamp) ⊎ (((v .item channel timestamp ≡ none) × Allowed v timestamp) ⊎ ((i ≡ none) × AtLeast Strong (suc timestamp) v)))
+    timestamp bound none (v .item channel timestamp) (λ under. inr (inr (refl, at-least-smaller under above))) (λ over. inl refl)
 
 -- what was there stays there, but for a sweep; what left does not come back, for a put would be below a visible time
-kind-spent : (channel timestamp ticket : ℕ) (v : View) → InOrder v → Spent channel timestamp ticket v → (w : View) → Kind v w → Spent channel timestamp ticket w
+kind-spent : (channel timestamp ticket : ℕ) (v : View) → ViewInOrder v → Spent channel timestamp ticket v → (w : View) → Kind v w → Spent channel timestamp ticket w
 kind-spent channel timestamp ticket v o (inl here) w kind =
-    ⊎-elim (λ same. inl (same ∙ here)) (⊎-elim (λ (lacks, may). absurd (not-none here lacks)) (λ (gone, past). inr (gone, above-kind Strong v o past w kind))) (place-kind v w kind channel timestamp)
+    ⊎-elim (λ same. inl (same ∙ here)) (⊎-elim (λ (lacks, may). absurd (not-none here lacks)) (λ (gone, past). inr (gone, at-least-kind Strong v o past w kind))) (place-kind v w kind channel timestamp)
 kind-spent channel timestamp ticket v o (inr (lacks, above)) w kind = inr (
-  ⊎-elim (λ same. same ∙ lacks) (⊎-elim (λ (free, may). absurd (omega (arith, above-allowed above timestamp may))) (λ (gone, past). gone)) (place-kind v w kind channel timestamp),
-  above-kind Strong v o above w kind,
+  ⊎-elim (λ same. same ∙ lacks) (⊎-elim (λ (free, may). absurd (omega (arith, at-least-allowed above timestamp may))) (λ (gone, past). gone)) (place-kind v w kind channel timestamp),
+  at-least-kind Strong v o above w kind,
 )
 
 put-spends : (v : View) (channel timestamp ticket : ℕ) (out : Outcome) → PutBy v channel timestamp ticket out → Spent channel timestamp ticket (out .view)
@@ -46,8 +46,8 @@ put-spends v channel timestamp ticket out by-it =
     subst (λ (x : Outcome). Spent channel timestamp ticket (x .view)) (sym e)
     (inl (rw (eq-eqb channel c (some-one (by-it .into) into), eq-eqb timestamp timestamp refl)))
 
-spent-after : (v w : View) → Reachable v → (channel timestamp ticket : ℕ) (out : Outcome) → PutBy v channel timestamp ticket out → Calls (out .view) w
-    → InOrder w × Spent channel timestamp ticket w
+spent-after : (v w : View) → Reachable v → (channel timestamp ticket : ℕ) (out : Outcome) → PutBy v channel timestamp ticket out → Run (out .view) w
+    → ViewInOrder w × Spent channel timestamp ticket w
 spent-after v w run channel timestamp ticket out by-it calls =
     let o = does-in-order v (every-view-in-order v run) (put (by-it .thread) (by-it .connection) timestamp ticket) (by-it .passable) out (by-it .does) in
     (calls-in-order calls o, by-calls (Spent channel timestamp ticket) (kind-spent channel timestamp ticket) calls o (put-spends v channel timestamp ticket out by-it))
@@ -62,4 +62,4 @@ no-pair-twice v w run channel timestamp ticket other out last first calls again 
     let (o, spent) = spent-after v w run channel timestamp ticket out first calls in
     let clear = accepted w (put (again .thread) (again .connection) timestamp other) last (again .does) (again .accepted) .0 in
     ⊎-elim (λ here. not-refused (clear .1 .1 .1 .1 .1 .0) (channel, ticket, again .into, here))
-    (λ (lacks, above). omega (arith, above-allowed above timestamp (allowed w o (again .thread) timestamp (not-refused (clear .1 .1 .1 .1 .0))))) spent
+    (λ (lacks, above). omega (arith, at-least-allowed above timestamp (allowed w o (again .thread) timestamp (not-refused (clear .1 .1 .1 .1 .0))))) spent

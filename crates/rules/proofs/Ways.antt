@@ -1,9 +1,9 @@
 -- An accepted call changes a view in one of six ways, so a law of all calls has six cases. Assumes nothing.
 use Rattle.rules.proofs.Basis.{_≡_, refl, sym, subst, Bool, true, false, inl, inr, ⊎-elim, Dec·and, Dec·not-not, Dec·of-iff, none, some, Option·some-injective, Option·none-ne-some, ℕ, suc, _≤_, _<_, arith, le-refl, lt-of-not-le, State, Unseen, Open, Consumed, Which, Earliest, Latest}
 use Rattle.rules.proofs.Basis.{Named, Channel, NewThread, AttachInput, AttachOutput, Detach, End, Set, Put, Get, Consume, ConsumeUntil, Bound, Weak, Strong, Call, by, sweep, Ticket, Passable, stateNumber}
-use Rattle.rules.specs.Claims.{Living, InOrder}
+use Rattle.rules.specs.Claims.{Living, ViewInOrder}
 use Rattle.rules.specs.Rules.{never, Connection, unused, output, input, View, withThread, withChannel, withConnection, owner, outputTo, KeepTime, stateOn, IsTime, VisibleTime, BoundOf, Takes, Outcome, Lowest, withItem, ended, swept, rule, NoneOf, Does, seenAs}
-use Rattle.rules.proofs.Connections.{Turned, Allowed, Waits, FitsIn, Turn, absent-done, reads, turned-freed, writes, turned-seen-as, turned-noticing, turned-raised, sees-first, seen-there, fits-seen-as, seen-above, fits-raised, freed, alike, opens, consumes}
+use Rattle.rules.proofs.Connections.{Turned, Allowed, Waits, ConnectionFitsIn, Turn, absent-done, reads, turned-freed, writes, turned-seen-as, turned-noticing, turned-raised, sees-first, seen-there, fits-seen-as, seen-above, fits-raised, freed, alike, opens, consumes}
 use Rattle.rules.proofs.Laws.{smallest-above, not-below, option-cases, smallest, at-elim, either, some-is, exists-below, state-is, smallest-one}
 
 -- ---- what is not refused
@@ -31,12 +31,12 @@ untaken v connection channel timestamp clear into = option-cases (v .item channe
 -- ---- a connection of a view in order
 
 -- an owned one is inside its table, and its owner lives
-pub owned-fits : (v : View) (k thread : ℕ) (c : Connection) → FitsIn v k c → owner c ≡ some thread → (k < 32) × Living (v .thread) thread
+pub owned-fits : (v : View) (k thread : ℕ) (c : Connection) → ConnectionFitsIn v k c → owner c ≡ some thread → (k < 32) × Living (v .thread) thread
 owned-fits v k thread unused f is = absurd (Option·none-ne-some thread is)
 owned-fits v k thread (output t c) f is = (f .0, subst (Living (v .thread)) (Option·some-injective t thread is) (f .1))
 owned-fits v k thread (input t c m s) f is = (f .0, subst (Living (v .thread)) (Option·some-injective t thread is) (f .1))
 
-written-exists : (v : View) (k channel : ℕ) (c : Connection) → FitsIn v k c → outputTo c ≡ some channel → v .channel channel ≡ true
+written-exists : (v : View) (k channel : ℕ) (c : Connection) → ConnectionFitsIn v k c → outputTo c ≡ some channel → v .channel channel ≡ true
 written-exists v k channel unused f is = absurd (Option·none-ne-some channel is)
 written-exists v k channel (output t c) f is = subst (λ (n : ℕ). v .channel n ≡ true) (Option·some-injective c channel is) (f .2)
 written-exists v k channel (input t c m s) f is = absurd (Option·none-ne-some channel is)
@@ -54,10 +54,10 @@ pub record Waiting (v : View) (connection timestamp : ℕ) : Type 0 where
   pub ticket : ℕ
   pub there : v .item channel timestamp ≡ some ticket
 
-pub waiting : (v : View) → InOrder v → (k timestamp : ℕ) → Waits (stateOn (v .connection k) timestamp) → Waiting v k timestamp
+pub waiting : (v : View) → ViewInOrder v → (k timestamp : ℕ) → Waits (stateOn (v .connection k) timestamp) → Waiting v k timestamp
 waiting v o k timestamp w = go (v .connection k) refl (o .connections k) w
   where
-    go : (c : Connection) → v .connection k ≡ c → FitsIn v k c → Waits (stateOn c timestamp) → Waiting v k timestamp
+    go : (c : Connection) → v .connection k ≡ c → ConnectionFitsIn v k c → Waits (stateOn c timestamp) → Waiting v k timestamp
     go unused e f w = absurd (absent-done w)
     go (output t c) e f w = absurd (absent-done w)
     go (input t c m s) e f w =
@@ -67,14 +67,14 @@ waiting v o k timestamp w = go (v .connection k) refl (o .connections k) w
 
 -- ---- visible time
 
-pub visible-time : (v : View) → InOrder v → (thread : ℕ) → (visible : ℕ) × VisibleTime v thread visible
+pub visible-time : (v : View) → ViewInOrder v → (thread : ℕ) → (visible : ℕ) × VisibleTime v thread visible
 visible-time v o thread = smallest _ (λ time. either (some-is time (v .thread thread)) (Dec·of-iff (λ (k, p). (k, p .0, p .1), λ (k, p, q). (k, (p, q)))
     (exists-below (λ k. (owner (v .connection k) ≡ some thread) × (stateOn (v .connection k) time ≡ Open))
     (λ k. Dec·and (some-is thread (owner (v .connection k))) (state-is Open (stateOn (v .connection k) time))) 32
     (λ k p. owned-fits v k thread (v .connection k) (o .connections k) (p .0) .0))))
 
 -- where 6 does not refuse, a visible time allows the time
-pub allowed : (v : View) → InOrder v → (thread time : ℕ) → (((visible : ℕ) × VisibleTime v thread visible × (time < visible)) → ⊥) → Allowed v time
+pub allowed : (v : View) → ViewInOrder v → (thread time : ℕ) → (((visible : ℕ) × VisibleTime v thread visible × (time < visible)) → ⊥) → Allowed v time
 allowed v o thread time clear = let (visible, is) = visible-time v o thread in (thread, visible, is, not-below (λ early. clear (visible, is, early)))
 
 -- ---- a time is at most every virtual time, and at most all that a bound is taken of besides
@@ -83,19 +83,19 @@ abbrev pub Pending : Bound → Connection → ℕ → Type 0
 Pending Weak c time = KeepTime c time
 Pending Strong c time = Waits (stateOn c time)
 
-pub record Above (bound : Bound) (least : ℕ) (v : View) : Type 0 where
+pub record AtLeast (bound : Bound) (least : ℕ) (v : View) : Type 0 where
   pub top : least ≤ never
   pub times : (time : ℕ) → IsTime v time → least ≤ time
   pub pends : (connection time : ℕ) → Pending bound (v .connection connection) time → least ≤ time
 
 -- so is each bound, and it is the greatest such time
-pub bound-above : {v : View} {least : ℕ} (bound : Bound) → BoundOf v bound least → Above bound least v
-bound-above Weak is = record { top = is .at-most-never; times = λ t q. is .at-most-each t (inl q); pends = λ k t q. is .at-most-each t (inr (k, q)) }
-bound-above Strong is = record { top = is .at-most-never; times = λ t q. is .at-most-each t (inl q); pends = λ k t q. is .at-most-each t (inr (k, q)) }
+pub bound-at-least : {v : View} {least : ℕ} (bound : Bound) → BoundOf v bound least → AtLeast bound least v
+bound-at-least Weak is = record { top = is .at-most-never; times = λ t q. is .at-most-each t (inl q); pends = λ k t q. is .at-most-each t (inr (k, q)) }
+bound-at-least Strong is = record { top = is .at-most-never; times = λ t q. is .at-most-each t (inl q); pends = λ k t q. is .at-most-each t (inr (k, q)) }
 
-pub above-bound : {v : View} {least now : ℕ} (bound : Bound) → Above bound least v → BoundOf v bound now → least ≤ now
-above-bound Weak a is = smallest-above is (a .top) (λ t. ⊎-elim (a .times t) (λ (k, q). a .pends k t q))
-above-bound Strong a is = smallest-above is (a .top) (λ t. ⊎-elim (a .times t) (λ (k, q). a .pends k t q))
+pub at-least-bound : {v : View} {least now : ℕ} (bound : Bound) → AtLeast bound least v → BoundOf v bound now → least ≤ now
+at-least-bound Weak a is = smallest-above is (a .top) (λ t. ⊎-elim (a .times t) (λ (k, q). a .pends k t q))
+at-least-bound Strong a is = smallest-above is (a .top) (λ t. ⊎-elim (a .times t) (λ (k, q). a .pends k t q))
 
 -- there is one
 pub bound-one : (v : View) (bound : Bound) (a b : ℕ) → BoundOf v bound a → BoundOf v bound b → a ≡ b
@@ -103,12 +103,12 @@ bound-one v Weak a b = smallest-one
 bound-one v Strong a b = smallest-one
 
 -- what waits is not below its mark
-pub above-waits : {v : View} {least : ℕ} → InOrder v → (bound : Bound) → Above bound least v → Above Strong least v
-above-waits o Strong a = a
-above-waits {v} o Weak a = record { top = a .top; times = a .times; pends = λ k t q. (let w = waiting v o k t q in omega (arith, w .late, a .pends k (w .mark) (rw (w .is)))) }
+pub at-least-waits : {v : View} {least : ℕ} → ViewInOrder v → (bound : Bound) → AtLeast bound least v → AtLeast Strong least v
+at-least-waits o Strong a = a
+at-least-waits {v} o Weak a = record { top = a .top; times = a .times; pends = λ k t q. (let w = waiting v o k t q in omega (arith, w .late, a .pends k (w .mark) (rw (w .is)))) }
 
-pub above-allowed : {v : View} {least : ℕ} → Above Strong least v → (time : ℕ) → Allowed v time → least ≤ time
-above-allowed {v} {least} a time (thread, visible, is, late) =
+pub at-least-allowed : {v : View} {least : ℕ} → AtLeast Strong least v → (time : ℕ) → Allowed v time → least ≤ time
+at-least-allowed {v} {least} a time (thread, visible, is, late) =
     let low : least ≤ visible = smallest-above is (a .top) (λ t. ⊎-elim (λ q. a .times t (thread, q)) (λ (k, own, opened). a .pends k t (inr opened))) in
     omega arith
 
@@ -120,17 +120,17 @@ takes-fits which Fits timestamp = elim which [ Earliest ↦ λ takes. takes .0 |
 pub data Kind (v : View) : View → Type 0 where
   makes : (number : ℕ) → number < 8 → Kind v (withChannel v number)
   sets : (number time : ℕ) → number < 16 → time ≤ never → Allowed v time → Kind v (withThread v number (some time))
-  changes : (number : ℕ) (new : Connection) → FitsIn v number new → Turned v (v .connection number) new → Kind v (withConnection v number new)
+  changes : (number : ℕ) (new : Connection) → ConnectionFitsIn v number new → Turned v (v .connection number) new → Kind v (withConnection v number new)
   ends : (thread : ℕ) → Kind v (ended v thread)
   stocks : (channel timestamp ticket : ℕ) → v .channel channel ≡ true → timestamp < never → Ticket ticket → Allowed v timestamp → v .item channel timestamp ≡ none
       → Kind v (withItem v channel timestamp ticket)
-  sweeps : (bound : ℕ) → Above Strong bound v → Kind v (swept v bound)
+  sweeps : (bound : ℕ) → AtLeast Strong bound v → Kind v (swept v bound)
 
-module _ (v : View) (o : InOrder v) where
+module _ (v : View) (o : ViewInOrder v) where
   abbrev Goal : Outcome → Type 0
   Goal out = Kind v (out .view)
 
-  attach-kind : (number : ℕ) (c : Connection) → v .connection number ≡ unused → FitsIn v number c → Turned v unused c → Kind v (withConnection v number c)
+  attach-kind : (number : ℕ) (c : Connection) → v .connection number ≡ unused → ConnectionFitsIn v number c → Turned v unused c → Kind v (withConnection v number c)
   attach-kind number c free fits turned = changes number c fits (subst (λ (x : Connection). Turned v x c) (sym free) turned)
 
   sees-kind : (number timestamp : ℕ) (state : State) → 0 < stateNumber state → Waits (stateOn (v .connection number) timestamp)
@@ -165,10 +165,10 @@ module _ (v : View) (o : InOrder v) where
   accepted-kind (by thread (ConsumeUntil connection timestamp)) fits clear out e = subst Goal (sym e) (changes connection _
       (fits-raised v connection (v .item) (suc timestamp) (lt-of-not-le (not-refused (clear .1 .1 .1 .0))) (λ c t over. refl) (v .connection connection) (o .connections connection))
       (turned-raised v (suc timestamp) (v .connection connection)))
-  accepted-kind (sweep bound slice) fits clear out (time, items, is, those, e) = subst Goal (sym e) (sweeps time (above-waits o bound (bound-above bound is)))
+  accepted-kind (sweep bound slice) fits clear out (time, items, is, those, e) = subst Goal (sym e) (sweeps time (at-least-waits o bound (bound-at-least bound is)))
 
 -- so what holds of a view and of what the six ways make of it holds after every call
-pub by-kind : (v : View) → InOrder v → (P : View → Type 0) → P v → ((w : View) → Kind v w → P w) → (call : Call) → Passable call → (out : Outcome) → Does v call out → P (out .view)
+pub by-kind : (v : View) → ViewInOrder v → (P : View → Type 0) → P v → ((w : View) → Kind v w → P w) → (call : Call) → Passable call → (out : Outcome) → Does v call out → P (out .view)
 by-kind v o P here each call fits out (inl (refused, view, lent)) = subst P (sym view) here
 by-kind v o P here each call fits out (inr (clear, accepts)) = each (out .view) (accepted-kind v o call fits clear out accepts)
 

@@ -16,7 +16,7 @@ use Rattle.calls.specs.Calls.{Call, sweep, detach, end, put, get, consume, isSw
 use Rattle.calls.specs.Questions.{Question, items-present, Request}
 use Rattle.calls.specs.States.{stateNumber}
 use Rattle.rules.specs.Rules.{never, Connection, unused, output, input, View, freshView, owner, outputTo, inputFrom, KeepTime, stateOn, WeakBound, StrongBound, BoundOf, Item, IsPresent, _∈_, InLine, Listed, tickets, Outcome, Does, Says}
-use Rattle.rules.specs.Runs.{Calls, Reachable, CouldBeGot, Reply, Gives, acceptedPuts, ticketsBack}
+use Rattle.rules.specs.Runs.{Run, Reachable, CouldBeGot, Reply, Gives, acceptedPuts, ticketsBack}
 
 -- ---- every call is answered, in one way
 
@@ -96,7 +96,7 @@ BoundsAreThere = (v : View) → Reachable v → (bound : Bound) → (time : ℕ)
 -- "The strong bound never goes down, also where threads end and their numbers are used again.", and no more does the weak one: `bounds-never-fall`
 abbrev pub BoundsNeverFall : Type 0
 BoundsNeverFall =
-    (v w : View) → Reachable v → Calls v w → (bound : Bound) (before now : ℕ) → BoundOf v bound before → BoundOf w bound now → before ≤ now
+    (v w : View) → Reachable v → Run v w → (bound : Bound) (before now : ℕ) → BoundOf v bound before → BoundOf w bound now → before ≤ now
 
 -- `weak-below-strong`
 abbrev pub WeakBelowStrong : Type 0
@@ -109,7 +109,7 @@ NeverWithoutThreads = (v : View) → Reachable v → ((thread : ℕ) → v .thre
 -- "If the last thread ends, every later call that names a thread is refused.": every call but a sweep names one: `refused-without-threads`
 abbrev pub RefusedWithoutThreads : Type 0
 RefusedWithoutThreads =
-    (v w : View) → ((thread : ℕ) → v .thread thread ≡ none) → Calls v w → (call : Call) → isSweep call ≡ false → (o : Outcome) → Does w call o
+    (v w : View) → ((thread : ℕ) → v .thread thread ≡ none) → Run v w → (call : Call) → isSweep call ≡ false → (o : Outcome) → Does w call o
     → (o .code ≡ 1) × (o .value ≡ 0) × (o .time ≡ 0)
 
 -- ---- what a connection has seen
@@ -168,23 +168,23 @@ abbrev pub Living : (ℕ → Option ℕ) → ℕ → Type 0
 Living threads thread = (time : ℕ) × (threads thread ≡ some time)
 
 -- what is in order about the connection with this number; an input sees what `EveryInputSees` says
-abbrev pub Fits : (ℕ → Option ℕ) → (ℕ → Bool) → (ℕ → ℕ → Option ℕ) → ℕ → Connection → Type 0
-Fits threads channels items number unused = Unit {0}
-Fits threads channels items number (output thread channel) = (number < 32) × Living threads thread × (channels channel ≡ true)
-Fits threads channels items number (input thread channel mark seen) =
+abbrev pub ConnectionFits : (ℕ → Option ℕ) → (ℕ → Bool) → (ℕ → ℕ → Option ℕ) → ℕ → Connection → Type 0
+ConnectionFits threads channels items number unused = Unit {0}
+ConnectionFits threads channels items number (output thread channel) = (number < 32) × Living threads thread × (channels channel ≡ true)
+ConnectionFits threads channels items number (input thread channel mark seen) =
     (number < 32) × Living threads thread × (channels channel ≡ true) × (mark ≤ never) × Sees (items channel) mark seen
 
 -- "Threads 16 (0..15), channels 8 (0..7), connections 32 (0..31)": no number is past its table's end, no time past never; a connection's thread lives and
 -- its channel exists, and so does an item's; never is no timestamp; a ticket is a "64-bit unsigned number"
-pub record InOrder (v : View) : Type 0 where
+pub record ViewInOrder (v : View) : Type 0 where
   pub threads : (thread time : ℕ) → v .thread thread ≡ some time → (thread < 16) × (time ≤ never)
   pub channels : (channel : ℕ) → v .channel channel ≡ true → channel < 8
-  pub connections : (connection : ℕ) → Fits (v .thread) (v .channel) (v .item) connection (v .connection connection)
+  pub connections : (connection : ℕ) → ConnectionFits (v .thread) (v .channel) (v .item) connection (v .connection connection)
   pub items : (channel timestamp ticket : ℕ) → v .item channel timestamp ≡ some ticket → (v .channel channel ≡ true) × (timestamp < never) × Ticket ticket
 
 -- `every-view-in-order`
 abbrev pub EveryViewInOrder : Type 0
-EveryViewInOrder = (v : View) → Reachable v → InOrder v
+EveryViewInOrder = (v : View) → Reachable v → ViewInOrder v
 
 -- ---- items
 
@@ -221,13 +221,13 @@ pub record PutBy (v : View) (channel timestamp ticket : ℕ) (o : Outcome) : Typ
 abbrev pub ComesBackAsPut : Type 0
 ComesBackAsPut =
     (v w : View) → Reachable v → (channel timestamp ticket other : ℕ) (o : Outcome) → PutBy v channel timestamp ticket o
-    → Calls (o .view) w → w .item channel timestamp ≡ some other → other ≡ ticket
+    → Run (o .view) w → w .item channel timestamp ≡ some other → other ≡ ticket
 
 -- "No pair of channel and timestamp is accepted twice.": `no-pair-twice`
 abbrev pub NoPairTwice : Type 0
 NoPairTwice =
     (v w : View) → Reachable v → (channel timestamp ticket other : ℕ) (o p : Outcome) → PutBy v channel timestamp ticket o
-    → Calls (o .view) w → PutBy w channel timestamp other p → ⊥
+    → Run (o .view) w → PutBy w channel timestamp other p → ⊥
 
 -- the items present are one list of at most 64: `items-are-listed`
 abbrev pub ItemsAreListed : Type 0

@@ -11,13 +11,13 @@ use Rattle.calls.specs.Questions.{Question, Request, make, ask}
 use Rattle.rules.specs.Rules.{View, freshView, inputFrom, Item, Outcome, Does, Says}
 
 -- any calls, refused ones and sweeps with slices of any length included
-pub data Calls : View → View → Type 0 where
-  stop : {v : View} → Calls v v
-  next : {v w : View} (call : Call) (o : Outcome) → Passable call → Does v call o → Calls (o .view) w → Calls v w
+pub data Run : View → View → Type 0 where
+  stop : {v : View} → Run v v
+  next : {v w : View} (call : Call) (o : Outcome) → Passable call → Does v call o → Run (o .view) w → Run v w
 
 -- "From a fresh desk, after any calls"
 abbrev pub Reachable : View → Type 0
-Reachable v = Calls freshView v
+Reachable v = Run freshView v
 
 -- "further run of accepted calls other than sweeps"
 pub data Further : View → View → Type 0 where

@@ -13,7 +13,7 @@ use Rattle.text.specs.Text.{written}
 use Rattle.desk.specs.declared.Desk.{Desk}
 use Rattle.session.specs.declared.Reader.{Reader}
 use Rattle.session.specs.Turns.{turn, printed}
-use Rattle.session.specs.Stream.{reader, lineSoFar, joined, readByte, printedBy, readerAfter, printedFor, waits, usedOf, printedAtEnd}
+use Rattle.session.specs.Stream.{reader, lineSoFar, withByte, readByte, printedBy, readerAfter, printedFor, waits, usedOf, printedAtEnd}
 
 -- ---- one part more, and one byte more
 
@@ -117,11 +117,11 @@ module _ (first : Reader) (part before : List ℕ) (r : Reader) (i at : ℕ) (ou
         }
 
     -- a byte that is no newline joins the line, and out stays
-    pub fed-joins : eqb byte 10 ≡ false → Fed first part before (joined r byte) (i + 1) at out
+    pub fed-joins : eqb byte 10 ≡ false → Fed first part before (withByte r byte) (i + 1) at out
     unfolding readByte printedBy
     fed-joins other =
         let none : printedBy r byte ≡ [] = rw other in
-        let joins : readByte r byte ≡ joined r byte = rw other in
+        let joins : readByte r byte ≡ withByte r byte = rw other in
         let stays : out ≡ take at out ++ printedBy r byte ++ drop at out = rw (none, append-nil) (sym (take-append-drop at out)) in
         let none-long : length (printedBy r byte) ≡ 0 = ap length none in
         rw joins at (fed-byte at out (rw other) (omega arith) (fed .room) stays)

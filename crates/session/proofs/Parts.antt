@@ -15,7 +15,7 @@ use Rattle.session.specs.declared.Reader.{Reader}
 use Rattle.session.specs.Turns.{turn, turnBy, printed}
 use Rattle.session.specs.Sessions.{linesOf, answers, sessionText}
 use Rattle.session.proofs.Feeding.{reader-append, printed-append}
-use Rattle.session.specs.Stream.{reader, lineSoFar, start, joined, readByte, printedBy, readerAfter, printedFor, printedAtEnd, together, printedInParts, SessionInParts}
+use Rattle.session.specs.Stream.{reader, lineSoFar, start, withByte, readByte, printedBy, readerAfter, printedFor, printedAtEnd, together, printedInParts, SessionInParts}
 
 -- ---- the first 81 bytes of a line are enough
 
@@ -81,7 +81,7 @@ module _ (r : Reader) (line : List ℕ) (byte : ℕ) (amid : Amid r line) where
       longer : length (line ++ (byte ∷ [])) ≡ length line + 1
       longer = length-append line (byte ∷ [])
 
-      by-room : (room : Bool) → ltb (r .held) 81 ≡ room → Amid (joined r byte) (line ++ (byte ∷ []))
+      by-room : (room : Bool) → ltb (r .held) 81 ≡ room → Amid (withByte r byte) (line ++ (byte ∷ []))
       by-room true t =
           let here : r .held < length (r .line) = omega (arith, ltb-true (r .held) 81 t, amid .places) in
           let whole : length line ≤ 80 = omega (arith, ltb-true (r .held) 81 t, amid .count) in

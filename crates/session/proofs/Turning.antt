@@ -45,13 +45,13 @@ sweep-turned d call e s = rw (e, s, taken (eqb (step d call .answer .code) 0))
 -- ---- no more tickets are printed than a word has places
 
 -- of an answer whose value is 64 at most: accepted, its tickets are as many as its value; refused, there are none
-accepted-few : (code number when : ℕ) (accepted : Bool) → eqb code 0 ≡ accepted → number ≤ 64 → sweptCount (answered code number when) ≤ 64
+accepted-few : (code number time : ℕ) (accepted : Bool) → eqb code 0 ≡ accepted → number ≤ 64 → sweptCount (answered code number time) ≤ 64
 unfolding answered
-accepted-few code number when true e few = simp e few
-accepted-few code number when false e few = refused (eqb code 12)
+accepted-few code number time true e few = simp e few
+accepted-few code number time false e few = refused (eqb code 12)
   where
     refused : (twelve : Bool)
-        → sweptCount (cond (eqb code 0) (answer code number when) (cond twelve (answer code number 0) (answer code 0 0))) ≤ 64
+        → sweptCount (cond (eqb code 0) (answer code number time) (cond twelve (answer code number 0) (answer code 0 0))) ≤ 64
     refused true = simp e zero-le
     refused false = simp e zero-le
 

@@ -24,11 +24,11 @@ unfoldable pub start : Reader
 start = reader fresh (replicate 81 0) 0
 
 -- one byte: a newline ends the line, any other byte joins it
-abbrev pub joined : Reader → ℕ → Reader
-joined r byte = cond (ltb (r .held) 81) (reader (r .desk) (set (r .line) (r .held) byte) (r .held + 1)) r
+abbrev pub withByte : Reader → ℕ → Reader
+withByte r byte = cond (ltb (r .held) 81) (reader (r .desk) (set (r .line) (r .held) byte) (r .held + 1)) r
 
 unfoldable pub readByte : Reader → ℕ → Reader
-readByte r byte = cond (eqb byte 10) (reader (turn (r .desk) (lineSoFar r) .desk) (r .line) 0) (joined r byte)
+readByte r byte = cond (eqb byte 10) (reader (turn (r .desk) (lineSoFar r) .desk) (r .line) 0) (withByte r byte)
 
 unfoldable pub printedBy : Reader → ℕ → List ℕ
 printedBy r byte = cond (eqb byte 10) (printed (turn (r .desk) (lineSoFar r))) []

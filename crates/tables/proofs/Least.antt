@@ -7,8 +7,8 @@ use native.Mathlib.Omega.{arith}
 use lib.Dec.{eqb, leb, ltb}
 use borrow.Author.Tests.{ltb-false}
 use Rattle.words.specs.Places.{foldTo, each}
-use Rattle.words.specs.Words.{has, without, both, less, lowest, count}
-use Rattle.words.proofs.Laws.{both-at, less-at, count-none}
+use Rattle.words.specs.Words.{has, without, both, except, lowest, count}
+use Rattle.words.proofs.Laws.{both-at, except-at, count-none}
 use Rattle.words.proofs.Walk.{each-turn, each-and, each-ext}
 use Rattle.rows.specs.declared.Thread.{Thread}
 use Rattle.rows.specs.declared.Connection.{Connection}
@@ -16,7 +16,7 @@ use Rattle.rows.specs.declared.Item.{Item}
 use Rattle.rows.specs.Numbers.{never, input}
 use Rattle.calls.specs.States.{isPending}
 use Rattle.rows.specs.States.{lookedAt, stateOf}
-use Rattle.rows.specs.Times.{lessIf}
+use Rattle.rows.specs.Times.{leastIf}
 use Rattle.rows.proofs.Laws.{and-assoc, and-comm, bool-cases, cond-same, open-is}
 use Rattle.tables.specs.Tables.{Table, threadAt, connectionAt, itemAt, isInput, readsFor}
 use Rattle.tables.specs.Seen.{lies, isOpenAt, isPendingAt}
@@ -35,10 +35,10 @@ least-time-is threads = each-ext 16 _ _ never _ _ (λ t inside. used-below (thre
 -- ---- keep times
 
 abbrev pub keepStep : Table Connection → ℕ → ℕ → ℕ
-keepStep connections k least = lessIf (eqb (connectionAt connections k .direction) input) (connectionAt connections k .mark) least
+keepStep connections k least = leastIf (eqb (connectionAt connections k .direction) input) (connectionAt connections k .mark) least
 
 pub least-keep-is : (connections : Table Connection) → leastKeep connections ≡ each 32 (has (connections .used)) (keepStep connections) never
-unfolding leastKeep smallest isInput lessIf
+unfolding leastKeep smallest isInput leastIf
 least-keep-is connections =
     each-and 32 _ never _ _ _ (λ k inside. ap (λ (t : Bool). t && eqb (connectionAt connections k .direction) input) (used-below (connections .used) inside))
 
@@ -67,35 +67,35 @@ each-where n f b w {wanted} {v} {x} word result holds =
     result ∙ ap (λ (u : ℕ). each n (has u) f b) (word ∙ ap (λ (t : Bool). cond t w 0) holds)
 
 -- a step whose test was made beforehand
-pub less-if-by : (time least : ℕ) {counts holds : Bool} {x : ℕ} → x ≡ lessIf counts time least → counts ≡ holds → x ≡ lessIf holds time least
-less-if-by time least step test = step ∙ ap (λ (t : Bool). lessIf t time least) test
+pub least-if-by : (time least : ℕ) {counts holds : Bool} {x : ℕ} → x ≡ leastIf counts time least → counts ≡ holds → x ≡ leastIf holds time least
+least-if-by time least step test = step ∙ ap (λ (t : Bool). leastIf t time least) test
 
 -- what does not count is not looked at
-less-if-time : (counts : Bool) {x y : ℕ} (least : ℕ) → (counts ≡ true → x ≡ y) → lessIf counts x least ≡ lessIf counts y least
-unfolding lessIf
-less-if-time true least same = ap (λ (x : ℕ). min x least) (same refl)
-less-if-time false least same = refl
+least-if-time : (counts : Bool) {x y : ℕ} (least : ℕ) → (counts ≡ true → x ≡ y) → leastIf counts x least ≡ leastIf counts y least
+unfolding leastIf
+least-if-time true least same = ap (λ (x : ℕ). min x least) (same refl)
+least-if-time false least same = refl
 
 -- a time that is not below the least does not lower it
-less-if-counts : {a b : Bool} (time least : ℕ) → (ltb time least ≡ true → a ≡ b) → lessIf a time least ≡ lessIf b time least
-unfolding lessIf
-less-if-counts {a} {b} time least same =
+least-if-counts : {a b : Bool} (time least : ℕ) → (ltb time least ≡ true → a ≡ b) → leastIf a time least ≡ leastIf b time least
+unfolding leastIf
+least-if-counts {a} {b} time least same =
     bool-cases
     (ltb time least)
-    (λ below. ap (λ (t : Bool). lessIf t time least) (same below))
+    (λ below. ap (λ (t : Bool). leastIf t time least) (same below))
     (λ above. not-lower a above ∙ sym (not-lower b above))
   where
-    not-lower : (t : Bool) → ltb time least ≡ false → lessIf t time least ≡ least
+    not-lower : (t : Bool) → ltb time least ≡ false → leastIf t time least ≡ least
     not-lower true above = min-eq-right (ltb-false time least above)
     not-lower false above = refl
 
 -- ---- OPEN timestamps
 
 abbrev pub openPlaces : Table Item → Connection → ℕ
-openPlaces items connection = both (connection .opened) (less (items .used) (connection .consumed))
+openPlaces items connection = both (connection .opened) (except (items .used) (connection .consumed))
 
 abbrev pub openStep : Table Item → Connection → ℕ → ℕ → ℕ
-openStep items connection p least = lessIf (lookedAt connection (itemAt items p)) (itemAt items p .timestamp) least
+openStep items connection p least = leastIf (lookedAt connection (itemAt items p)) (itemAt items p .timestamp) least
 
 open-split : (present lies above opened consumed : Bool)
     → ((present && lies) && (above && (opened && not consumed))) ≡ ((opened && (present && not consumed)) && (lies && above))
@@ -113,25 +113,25 @@ open-at items connection p inside =
     let beside : Bool = eqb (item .channel) (connection .channel) in
     let above : Bool = leb (connection .mark) (item .timestamp) in
     let opened : Bool = has (connection .opened) p in
-    let unconsumed = less-at (items .used) (connection .consumed) inside in
+    let unconsumed = except-at (items .used) (connection .consumed) inside in
     ap (λ (t : Bool). (present && beside) && t) (open-is connection (item .timestamp) p inside)
     ∙ open-split present beside above opened (has (connection .consumed) p)
     ∙ sym (ap (λ (t : Bool). t && (beside && above)) (both-at (connection .opened) _ inside ∙ ap (λ (t : Bool). opened && t) unconsumed))
 
 pub open-time-is : (items : Table Item) (connection : Connection)
     → openTime items connection ≡ each 64 (has (openPlaces items connection)) (openStep items connection) never
-unfolding openTime smallest lessIf
+unfolding openTime smallest leastIf
 open-time-is items connection = each-and 64 _ never _ _ _ (open-at items connection)
 
 abbrev pub readsRow : Connection → ℕ → Bool
 readsRow connection t = eqb (connection .direction) input && eqb (connection .thread) t
 
 abbrev pub readStep : Table Connection → Table Item → ℕ → ℕ → ℕ → ℕ
-readStep connections items t k least = lessIf (readsRow (connectionAt connections k) t) (openTime items (connectionAt connections k)) least
+readStep connections items t k least = leastIf (readsRow (connectionAt connections k) t) (openTime items (connectionAt connections k)) least
 
 pub least-open-is : (connections : Table Connection) (items : Table Item) (t : ℕ)
     → leastOpen connections items t ≡ each 32 (has (connections .used)) (readStep connections items t) never
-unfolding leastOpen smallest readsFor isInput lessIf
+unfolding leastOpen smallest readsFor isInput leastIf
 least-open-is connections items t =
     each-and 32 _ never _ _ _
     (λ k inside. let connection = connectionAt connections k in
@@ -144,13 +144,13 @@ pub open-turn : (items : Table Item) (connection : Connection) (t least : ℕ) {
     → reads ≡ readsRow connection t
     → left ≡ cond reads (openPlaces items connection) 0
     → opened ≡ each 64 (has left) (openStep items connection) never
-    → x ≡ lessIf reads opened least
-    → x ≡ lessIf (readsRow connection t) (openTime items connection) least
+    → x ≡ leastIf reads opened least
+    → x ≡ leastIf (readsRow connection t) (openTime items connection) least
 open-turn items connection t least {reads} read word inner outer =
     outer
-    ∙ less-if-time reads least
+    ∙ least-if-time reads least
     (λ holds. each-where 64 (openStep items connection) never (openPlaces items connection) word inner holds ∙ sym (open-time-is items connection))
-    ∙ ap (λ (b : Bool). lessIf b (openTime items connection) least) read
+    ∙ ap (λ (b : Bool). leastIf b (openTime items connection) least) read
 
 -- ---- UNSEEN and OPEN timestamps
 
@@ -188,11 +188,11 @@ is-awaited connections items p = go (has (items .used) p)
     go false = refl
 
 abbrev pub leastStep : Table Connection → Table Item → ℕ → ℕ → ℕ
-leastStep connections items p least = lessIf (awaitedBy connections (itemAt items p) p) (itemAt items p .timestamp) least
+leastStep connections items p least = leastIf (awaitedBy connections (itemAt items p) p) (itemAt items p .timestamp) least
 
 pub least-awaited-is : (connections : Table Connection) (items : Table Item) (time : ℕ) → time ≤ never
     → min time (leastAwaited connections items) ≡ each 64 (has (items .used)) (leastStep connections items) time
-unfolding leastAwaited lessIf
+unfolding leastAwaited leastIf
 least-awaited-is connections items time fits =
     sym (smallest-from 64 _ _ time fits) ∙ each-and 64 _ time _ _ _ (λ p inside. is-awaited connections items p)
 
@@ -236,7 +236,7 @@ asked-fewer false v word fewer = rw word fewer
 pub await-turn : (connections : Table Connection) (item : Item) (p least : ℕ) {left x : ℕ} {awaited : Bool}
     → left ≡ cond (ltb (item .timestamp) least) (connections .used) 0
     → awaited ≡ each 32 (has left) (awaitStep connections item p) false
-    → x ≡ lessIf awaited (item .timestamp) least
-    → x ≡ lessIf (awaitedBy connections item p) (item .timestamp) least
+    → x ≡ leastIf awaited (item .timestamp) least
+    → x ≡ leastIf (awaitedBy connections item p) (item .timestamp) least
 await-turn connections item p least word inner outer =
-    outer ∙ less-if-counts (item .timestamp) least (each-where 32 (awaitStep connections item p) false (connections .used) word inner)
+    outer ∙ least-if-counts (item .timestamp) least (each-where 32 (awaitStep connections item p) false (connections .used) word inner)

@@ -14,10 +14,10 @@ unfolding inUse
 used-below used {place} {places} inside = ap (λ (b : Bool). b && has used place) (lt-ltb place places inside)
 
 -- one turn of a loop that builds a word: the place joins it where it passes
-abbrev pub joined : (ℕ → Bool) → ℕ → ℕ → ℕ
-joined passes place word = cond (passes place) (with word place) word
+abbrev pub gathered : (ℕ → Bool) → ℕ → ℕ → ℕ
+gathered passes place word = cond (passes place) (with word place) word
 
 -- such a loop over the places of a word builds the word of those that pass
-pub joined-all : (n used : ℕ) (counts passes : ℕ → Bool) → n ≤ 64 → ((i : ℕ) → i < n → counts i ≡ (has used i && passes i)) → each n (has used) (joined passes) 0 ≡ wordOf counts n
-joined-all n used counts passes fits split =
+pub gathered-all : (n used : ℕ) (counts passes : ℕ → Bool) → n ≤ 64 → ((i : ℕ) → i < n → counts i ≡ (has used i && passes i)) → each n (has used) (gathered passes) 0 ≡ wordOf counts n
+gathered-all n used counts passes fits split =
     sym (each-and n (λ place word. with word place) 0 counts (has used) passes split) ∙ each-with n counts fits

@@ -1,7 +1,7 @@
 // Searches through the items.
 ghost use mathlib.Core.Path.{_≡_};
 ghost use mathlib.Core.Bool.{_&&_};
-ghost use Rattle.words.specs.Words.{less};
+ghost use Rattle.words.specs.Words.{except};
 ghost use Rattle.rows.specs.States.{lookedAt};
 ghost use Rattle.tables.specs.Tables.{table};
 ghost use Rattle.tables.specs.Seen.{placeOf};
@@ -12,7 +12,7 @@ use rows::Found;
 use rows::Item;
 
 // The place of the channel's item with the timestamp; 64 where the channel has none.
-pub fn find(items: [Item; 64], present: u64, channel: u32, timestamp: u32) -> u32
+pub fn place_of(items: [Item; 64], present: u64, channel: u32, timestamp: u32) -> u32
     ensures { λ r. ⌜ r ≡ placeOf (table present items) channel timestamp ⌝ }
 {
     let mut rest = present;
@@ -33,9 +33,12 @@ pub fn find(items: [Item; 64], present: u64, channel: u32, timestamp: u32) -> u3
 
 // The places that can be UNSEEN on the connection.
 fn unseen_places(connection: Connection, present: u64) -> u64
-    ensures { λ r. ⌜ r ≡ less (less present (connection .opened)) (connection .consumed) ⌝ }
+    ensures { λ r. ⌜ r ≡ except (except present (connection .opened)) (connection .consumed) ⌝ }
 {
-    words::less(words::less(present, connection.opened), connection.consumed)
+    words::except(
+        words::except(present, connection.opened),
+        connection.consumed,
+    )
 }
 
 // Whether the item has the named timestamp, where one is named.

@@ -3,7 +3,7 @@ ghost use mathlib.Core.Path.{_≡_};
 ghost use mathlib.Core.Bool.{_&&_, cond, true};
 ghost use Prim.Native.Nat.{min};
 ghost use lib.Dec.{eqb, ltb};
-ghost use Rattle.words.specs.Words.{both, less};
+ghost use Rattle.words.specs.Words.{both, except};
 ghost use Rattle.rows.specs.Numbers.{input};
 ghost use Rattle.calls.specs.States.{isPending};
 ghost use Rattle.rows.specs.States.{stateOf};
@@ -65,10 +65,13 @@ fn reads_row(connection: Connection, thread: u32) -> bool
 
 // The places that can be OPEN on the connection; none where it is not looked at.
 fn open_places(reads: bool, connection: Connection, present: u64) -> u64
-    ensures { λ r. ⌜ r ≡ cond reads (both (connection .opened) (less present (connection .consumed))) 0 ⌝ }
+    ensures { λ r. ⌜ r ≡ cond reads (both (connection .opened) (except present (connection .consumed))) 0 ⌝ }
 {
     if reads {
-        return words::both(connection.opened, words::less(present, connection.consumed));
+        return words::both(
+            connection.opened,
+            words::except(present, connection.consumed),
+        );
     }
     0
 }

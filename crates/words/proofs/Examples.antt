@@ -3,12 +3,12 @@ use mathlib.Core.Path.{_≡_, refl}
 use mathlib.Core.Bool.{true, false}
 use Prim.Native.Nat.{_+_, _*_}
 use Rattle.words.specs.Places.{foldTo, countOf, lowestOf, wordOf}
-use Rattle.words.specs.Words.{has, with, without, both, less, lowest, lowestFree, count}
+use Rattle.words.specs.Words.{has, with, without, both, except, lowest, lowestFree, count}
 
 -- the steps at 0, 1, 2 and 3, each written behind the one before
-fold-in-order : foldTo (λ p x. x * 10 + p) 7 4 ≡ 70123
+fold-in-line : foldTo (λ p x. x * 10 + p) 7 4 ≡ 70123
 unfolding foldTo
-fold-in-order = refl
+fold-in-line = refl
 
 has-last : has 18446744073709551615 63 ≡ true
 unfolding has
@@ -54,13 +54,13 @@ both-some : both 12 10 ≡ 8
 unfolding has wordOf both
 both-some = refl
 
-less-some : less 12 10 ≡ 4
-unfolding has wordOf less
-less-some = refl
+except-some : except 12 10 ≡ 4
+unfolding has wordOf except
+except-some = refl
 
-less-all : less 18446744073709551615 1 ≡ 18446744073709551614
-unfolding has wordOf less
-less-all = refl
+except-all : except 18446744073709551615 1 ≡ 18446744073709551614
+unfolding has wordOf except
+except-all = refl
 
 lowest-some : lowest 12 ≡ 2
 unfolding has lowestOf lowest

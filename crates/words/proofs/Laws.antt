@@ -9,7 +9,7 @@ use lib.Dec.{eqb, ltb}
 use lib.Pow.{pow-pos}
 use borrow.Author.Tests.{lt-ltb, le-ltb, eq-eqb, ne-eqb, ltb-true, ltb-false, eqb-true, eqb-false, not-true, not-false}
 use Rattle.words.specs.Places.{countOf, lowestOf, wordOf}
-use Rattle.words.specs.Words.{has, with, without, both, less, lowest, lowestFree, count}
+use Rattle.words.specs.Words.{has, with, without, both, except, lowest, lowestFree, count}
 pub use Rattle.words.proofs.Digits.{has-none}
 use Rattle.words.proofs.Digits.{num, num-le, has-from, same-places, has-top}
 
@@ -71,9 +71,9 @@ pub has-both : (a b i : ℕ) → has (both a b) i ≡ (ltb i 64 && (has a i && h
 unfolding both
 has-both a b = has-wordOf (λ i. has a i && has b i) 64
 
-pub has-less : (a b i : ℕ) → has (less a b) i ≡ (ltb i 64 && (has a i && not (has b i)))
-unfolding less
-has-less a b = has-wordOf (λ i. has a i && not (has b i)) 64
+pub has-except : (a b i : ℕ) → has (except a b) i ≡ (ltb i 64 && (has a i && not (has b i)))
+unfolding except
+has-except a b = has-wordOf (λ i. has a i && not (has b i)) 64
 
 pub with-lt : (w p : ℕ) → with w p < 2 ^ 64
 unfolding with
@@ -87,9 +87,9 @@ pub both-lt : (a b : ℕ) → both a b < 2 ^ 64
 unfolding both
 both-lt a b = wordOf-lt (λ i. has a i && has b i) 64
 
-pub less-lt : (a b : ℕ) → less a b < 2 ^ 64
-unfolding less
-less-lt a b = wordOf-lt (λ i. has a i && not (has b i)) 64
+pub except-lt : (a b : ℕ) → except a b < 2 ^ 64
+unfolding except
+except-lt a b = wordOf-lt (λ i. has a i && not (has b i)) 64
 
 -- ---- the same, place by place
 
@@ -133,9 +133,9 @@ pub both-at : (a b : ℕ) {i : ℕ} → i < 64 → has (both a b) i ≡ (has a i
 unfolding both
 both-at a b = has-wordOf-in (λ i. has a i && has b i)
 
-pub less-at : (a b : ℕ) {i : ℕ} → i < 64 → has (less a b) i ≡ (has a i && not (has b i))
-unfolding less
-less-at a b = has-wordOf-in (λ i. has a i && not (has b i))
+pub except-at : (a b : ℕ) {i : ℕ} → i < 64 → has (except a b) i ≡ (has a i && not (has b i))
+unfolding except
+except-at a b = has-wordOf-in (λ i. has a i && not (has b i))
 
 -- ---- the lowest place that passes a test
 
@@ -277,12 +277,12 @@ split-of f g (suc n) = omega (arith, split-of f g n, go (f n) (g n))
     go true false = refl
     go false b = refl
 
-pub count-split : (a b : ℕ) → count (both a b) + count (less a b) ≡ count a
+pub count-split : (a b : ℕ) → count (both a b) + count (except a b) ≡ count a
 unfolding count
 count-split a b =
     let in-both = count-ext (has (both a b)) (λ i. has a i && has b i) 64 (λ i l. both-at a b l) in
-    let in-less = count-ext (has (less a b)) (λ i. has a i && not (has b i)) 64 (λ i l. less-at a b l) in
-    ap₂ (λ (x y : ℕ). x + y) in-both in-less ∙ split-of (has a) (has b) 64
+    let in-except = count-ext (has (except a b)) (λ i. has a i && not (has b i)) 64 (λ i l. except-at a b l) in
+    ap₂ (λ (x y : ℕ). x + y) in-both in-except ∙ split-of (has a) (has b) 64
 
 -- every place passes where as many pass as there are, and the other way round
 full-all : (f : ℕ → Bool) (n : ℕ) → countOf f n ≡ n → (i : ℕ) → i < n → f i ≡ true

@@ -10,7 +10,7 @@ use lib.Pow.{pow-pos, pow-lt, ones-sub-lt}
 use lib.Bits.{bitAnd, bitOr, and-step, or-step, and-shr, or-shr, and-lt, or-lt, and-mask}
 use lib.Count.{ones, ones-step, trailingZeros, under}
 use Rattle.words.specs.Places.{countOf, lowestOf}
-use Rattle.words.specs.Words.{has, with, without, both, less, lowest, lowestFree, count}
+use Rattle.words.specs.Words.{has, with, without, both, except, lowest, lowestFree, count}
 use Rattle.words.proofs.Digits.{num-injective, has-first, has-next, has-none, has-top}
 use Rattle.words.proofs.Laws.{wordOf-is, count-ext, count-first, lowest-ext}
 
@@ -115,9 +115,9 @@ unfolding both
 both-is a b h k = wordOf-is (λ i. has a i && has b i) (bitAnd a b) (and-lt 64 a b h k) (λ i l. has-and a b i)
 
 -- `a & !b`
-pub less-is : (a b : ℕ) → a < 2 ^ 64 → b < 2 ^ 64 → bitAnd a ((2 ^ 64 - 1) - b) ≡ less a b
-unfolding less
-less-is a b h k =
+pub except-is : (a b : ℕ) → a < 2 ^ 64 → b < 2 ^ 64 → bitAnd a ((2 ^ 64 - 1) - b) ≡ except a b
+unfolding except
+except-is a b h k =
     wordOf-is
     (λ i. has a i && not (has b i))
     (bitAnd a ((2 ^ 64 - 1) - b))

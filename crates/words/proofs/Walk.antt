@@ -123,8 +123,8 @@ module _ {B : Type 0} where
 -- the measure of such a loop
 pub each-falls : (w : ℕ) {v p : ℕ} → p < 64 → p ≡ lowest w → v ≡ without w p → count v < count w
 each-falls w {v} {p} l e rest =
-    let less : count (without w (lowest w)) < count w = omega (arith, count-without w (rw e at l) (lowest-has w (rw e at l))) in
-    subst (λ (u : ℕ). count u < count w) (sym (rest ∙ ap (without w) e)) less
+    let except : count (without w (lowest w)) < count w = omega (arith, count-without w (rw e at l) (lowest-has w (rw e at l))) in
+    subst (λ (u : ℕ). count u < count w) (sym (rest ∙ ap (without w) e)) except
 
 -- ---- a word built place by place
 

@@ -21,8 +21,8 @@ unfoldable pub both : ℕ → ℕ → ℕ
 both a b = wordOf (λ i. has a i && has b i) 64
 
 -- the places of a that are not in b
-unfoldable pub less : ℕ → ℕ → ℕ
-less a b = wordOf (λ i. has a i && not (has b i)) 64
+unfoldable pub except : ℕ → ℕ → ℕ
+except a b = wordOf (λ i. has a i && not (has b i)) 64
 
 -- the lowest place in the word; 64 where there is none
 unfoldable pub lowest : ℕ → ℕ

@@ -1,6 +1,6 @@
 // A u64 as a set of 64 places.
 ghost use mathlib.Core.Path.{_≡_};
-ghost use Rattle.words.specs.Words.{has, with, without, both, less, lowest, lowestFree, count};
+ghost use Rattle.words.specs.Words.{has, with, without, both, except, lowest, lowestFree, count};
 
 // A word has the places 0 to 63.
 const PLACES: u32 = 64;
@@ -43,8 +43,8 @@ pub fn both(a: u64, b: u64) -> u64
 }
 
 // The places of a that are not in b.
-pub fn less(a: u64, b: u64) -> u64
-    ensures { λ r. ⌜ r ≡ less a b ⌝ }
+pub fn except(a: u64, b: u64) -> u64
+    ensures { λ r. ⌜ r ≡ except a b ⌝ }
 {
     a & !b
 }

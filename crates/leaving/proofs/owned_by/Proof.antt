@@ -14,7 +14,7 @@ use Rattle.rows.specs.declared.Connection.{Connection}
 use Rattle.rows.specs.Numbers.{noConnection}
 use Rattle.tables.specs.Tables.{table, owns}
 use Rattle.leaving.specs.Leaving.{ownedBy}
-use Rattle.tables.proofs.Used.{used-below, joined, joined-all}
+use Rattle.tables.proofs.Used.{used-below, gathered, gathered-all}
 use Rattle.leaving.proofs.owned_by.Statement.{statement}
 use Rattle.leaving.proofs.owned_by.Tie as tie
 
@@ -22,15 +22,15 @@ use Rattle.leaving.proofs.owned_by.Tie as tie
 is-owned : List Connection → ℕ → ℕ → Bool
 is-owned connections thread k = eqb (getD connections k noConnection .thread) thread
 
-whole : (connections : List Connection) (attached thread : ℕ) → each 32 (has attached) (joined (is-owned connections thread)) 0 ≡ ownedBy (table attached connections) thread
+whole : (connections : List Connection) (attached thread : ℕ) → each 32 (has attached) (gathered (is-owned connections thread)) 0 ≡ ownedBy (table attached connections) thread
 unfolding ownedBy owns is-owned
 whole connections attached thread =
-    joined-all 32 attached (owns (table attached connections) thread) (is-owned connections thread) (omega arith)
+    gathered-all 32 attached (owns (table attached connections) thread) (is-owned connections thread) (omega arith)
     (λ k inside. ap (λ (b : Bool). b && is-owned connections thread k) (used-below attached inside))
 
 abbrev Inv-loop : tie.InvT-loop
 Inv-loop attached thread connections gone₀ rest₀ k₀ gone rest k =
-    (k ≡ lowest rest) × (each 32 (has rest) (joined (is-owned connections thread)) gone ≡ ownedBy (table attached connections) thread)
+    (k ≡ lowest rest) × (each 32 (has rest) (gathered (is-owned connections thread)) gone ≡ ownedBy (table attached connections) thread)
 
 abbrev μ-loop : tie.MeasureT-loop
 μ-loop attached thread connections gone₀ rest₀ k₀ gone rest k = count rest
@@ -73,7 +73,7 @@ loop-again c =
       c .lowest2 .ensures,
       each-turn
           32
-          (joined (is-owned (args .t1) (args .thread)))
+          (gathered (is-owned (args .t1) (args .thread)))
           (at .loop .rest)
           (at .loop .gone)
           (omega arith)

@@ -1,9 +1,9 @@
 -- A desk in order stays so where one table changes: one row of the threads or connections, a new item, a thread's end, a sweep. Assumes nothing.
-use Rattle.obeys.proofs.Basis.{_∙_, _≡_, ap, refl, sym, Bool, and-false, false, true, _≢_, List, _<_, _≤_, ℕ, ℕ-discrete, arith, ltb, getD, set, getD-set-other, getD-set-same, eq-eqb, has, less, with, free-lacks, has-none}
-use Rattle.obeys.proofs.Basis.{less-lt, with-other, with-same, word-ext, cleared, never, noConnection, noItem, noThread, Row, Item, Thread, and-both, bool-cases, true-not-false, isItem, placeOf, Table, connectionAt}
-use Rattle.obeys.proofs.Basis.{connectionPlaces, inUse, isInput, itemAt, itemPlaces, table, threadPlaces, freedConnections, leaving, ownedBy, sweptConnection, sweptConnections, sweptItems, getD-rowsOf, ended, freeItem}
-use Rattle.obeys.proofs.Basis.{stored, swept, connectionsOf, itemsOf, withConnections, withItems, withThreads, Desk, ConnectionInOrder, InOrder, Stands, Tidy}
-use Rattle.obeys.proofs.Words.{not-then, Elsewhere, with-was, with-elsewhere, without-elsewhere, less-was, less-stays}
+use Rattle.obeys.proofs.Basis.{_∙_, _≡_, ap, refl, sym, Bool, and-false, false, true, _≢_, List, _<_, _≤_, ℕ, ℕ-discrete, arith, ltb, getD, set, getD-set-other, getD-set-same, eq-eqb, has, except, with, free-lacks, has-none}
+use Rattle.obeys.proofs.Basis.{except-lt, with-other, with-same, word-ext, cleared, never, noConnection, noItem, noThread, Row, Item, Thread, and-both, bool-cases, true-not-false, isItem, placeOf, Table, connectionAt}
+use Rattle.obeys.proofs.Basis.{connectionPlaces, inUse, isInput, itemAt, itemPlaces, table, threadPlaces, freedConnections, itemsBelow, ownedBy, sweptConnection, sweptConnections, sweptItems, getD-rowsOf, ended, freeItem}
+use Rattle.obeys.proofs.Basis.{stored, swept, connectionsOf, itemsOf, withConnections, withItems, withThreads, Desk, ConnectionInOrder, DeskInOrder, Stands, Tidy}
+use Rattle.obeys.proofs.Words.{not-then, Elsewhere, with-was, with-elsewhere, without-elsewhere, except-was, except-stays}
 use Rattle.obeys.proofs.Chosen.{place-reach}
 use Rattle.obeys.proofs.Order.Tables.{tidy-by-rule, tidy-set, all-set, tidy-thinned, thinned-row}
 use Rattle.obeys.proofs.Order.Rows.{standing, raised-in-order, cleared-in-order}
@@ -11,12 +11,12 @@ use Rattle.obeys.proofs.Order.Rows.{standing, raised-in-order, cleared-
 -- ---- a swept row
 
 -- a free row stays free
-less-none : (gone : ℕ) → less 0 gone ≡ 0
-less-none gone = word-ext (less 0 gone) 0 (less-lt 0 gone) (omega arith) (λ i inside. not-then (less-was 0 gone i) (has-none i) ∙ sym (has-none i))
+except-none : (gone : ℕ) → except 0 gone ≡ 0
+except-none gone = word-ext (except 0 gone) 0 (except-lt 0 gone) (omega arith) (λ i inside. not-then (except-was 0 gone i) (has-none i) ∙ sym (has-none i))
 
 free-swept : (reads : Bool) (bound gone : ℕ) → reads ≡ false → sweptConnection reads bound gone noConnection ≡ noConnection
 unfolding cleared
-free-swept reads bound gone writes = rw (writes, less-none gone)
+free-swept reads bound gone writes = rw (writes, except-none gone)
 
 free-reads : (used connection : ℕ) (rows : List Row) → has used connection ≡ false → isInput (table used rows) connection ≡ false
 unfolding isInput inUse
@@ -27,11 +27,11 @@ swept-row-in-order : {items : Table Item} (row : Row) (reads : Bool) (bound gone
 swept-row-in-order row true bound gone top c = raised-in-order c bound top
 swept-row-in-order row false bound gone top c = c
 
-module _ {d : Desk} (o : InOrder d) where
+module _ {d : Desk} (o : DeskInOrder d) where
   -- ---- threads and connections
 
   other-threads : {living : ℕ} {threads : List Thread} → Tidy threadPlaces noThread living threads
-      → ((thread : ℕ) → has living thread ≡ true → getD threads thread noThread .time ≤ never) → InOrder (withThreads d living threads)
+      → ((thread : ℕ) → has living thread ≡ true → getD threads thread noThread .time ≤ never) → DeskInOrder (withThreads d living threads)
   other-threads {living} tidy times = record {
     threads = tidy;
     connections = o .connections;
@@ -44,7 +44,7 @@ module _ {d : Desk} (o : InOrder d) where
   }
 
   pub thread-set : {living : ℕ} (thread time : ℕ) → Elsewhere living (d .living) thread → thread < threadPlaces → (has living thread ≡ false → time ≡ 0) → time ≤ never
-      → InOrder (withThreads d living (set (d .threads) thread (record { time = time })))
+      → DeskInOrder (withThreads d living (set (d .threads) thread (record { time = time })))
   thread-set thread time else below freed top =
       let row : Thread = record { time = time } in
       other-threads
@@ -53,7 +53,7 @@ module _ {d : Desk} (o : InOrder d) where
 
   other-connections : {attached : ℕ} {connections : List Row} → Tidy connectionPlaces noConnection attached connections
       → ((connection : ℕ) → has attached connection ≡ true → ConnectionInOrder (itemsOf d) (getD connections connection noConnection))
-      → InOrder (withConnections d attached connections)
+      → DeskInOrder (withConnections d attached connections)
   other-connections tidy each-one = record {
     threads = o .threads;
     connections = tidy;
@@ -67,7 +67,7 @@ module _ {d : Desk} (o : InOrder d) where
 
   pub connection-set : {attached : ℕ} (connection : ℕ) (row : Row) → Elsewhere attached (d .attached) connection → connection < connectionPlaces
       → (has attached connection ≡ false → row ≡ noConnection) → (has attached connection ≡ true → ConnectionInOrder (itemsOf d) row)
-      → InOrder (withConnections d attached (set (d .connections) connection row))
+      → DeskInOrder (withConnections d attached (set (d .connections) connection row))
   connection-set connection row else below freed good =
       other-connections
       (tidy-set (o .connections) (omega arith) else below row freed)
@@ -75,24 +75,24 @@ module _ {d : Desk} (o : InOrder d) where
 
 -- ---- an end
 
-module _ {d : Desk} (o : InOrder d) (thread : ℕ) (below : thread < threadPlaces) where
+module _ {d : Desk} (o : DeskInOrder d) (thread : ℕ) (below : thread < threadPlaces) where
   abbrev owned : ℕ
   owned = ownedBy (connectionsOf d) thread
 
-  connections-freed : InOrder (withConnections d (less (d .attached) owned) (freedConnections (d .connections) owned))
+  connections-freed : DeskInOrder (withConnections d (except (d .attached) owned) (freedConnections (d .connections) owned))
   unfolding freedConnections
   connections-freed =
       other-connections o (tidy-thinned (o .connections) (omega arith) owned)
       (λ connection left. rw (thinned-row (o .connections) (omega arith) owned connection left)
-      (o .attached connection (less-was (d .attached) owned connection left)))
+      (o .attached connection (except-was (d .attached) owned connection left)))
 
-  pub ended-in-order : InOrder (ended d thread)
+  pub ended-in-order : DeskInOrder (ended d thread)
   unfolding ended
   ended-in-order = thread-set connections-freed thread 0 (without-elsewhere (d .living) thread) below (λ _. refl) (omega arith)
 
 -- ---- a new item, whose pair of channel and timestamp no present item has
 
-module _ {d : Desk} (o : InOrder d) (item : Item) (fits : freeItem d < itemPlaces) (stamped : item .timestamp < never)
+module _ {d : Desk} (o : DeskInOrder d) (item : Item) (fits : freeItem d < itemPlaces) (stamped : item .timestamp < never)
     (new : itemPlaces ≤ placeOf (itemsOf d) (item .channel) (item .timestamp)) where
   abbrev free : ℕ
   free = freeItem d
@@ -149,7 +149,7 @@ module _ {d : Desk} (o : InOrder d) (item : Item) (fits : freeItem d < itemPlace
       let apart : place ≢ free = λ same. true-not-false there (rw same (free-lacks (d .present) fits)) in
       (with-other (d .present) (o .items .inside place there) apart ∙ there, ap (λ (row : Item). row .channel) (elsewhere place apart) ∙ beside, reads)
 
-  pub stored-in-order : InOrder (stored d item)
+  pub stored-in-order : DeskInOrder (stored d item)
   unfolding stored
   stored-in-order =
       let else = with-elsewhere (d .present) free in
@@ -166,25 +166,25 @@ module _ {d : Desk} (o : InOrder d) (item : Item) (fits : freeItem d < itemPlace
 
 -- ---- a sweep
 
-module _ {d : Desk} (o : InOrder d) (bound gone : ℕ) (top : bound ≤ never) where
+module _ {d : Desk} (o : DeskInOrder d) (bound gone : ℕ) (top : bound ≤ never) where
   abbrev row : ℕ → Row
   row connection = sweptConnection (isInput (connectionsOf d) connection) bound gone (connectionAt (connectionsOf d) connection)
 
   abbrev left : Table Item
-  left = table (less (d .present) gone) (sweptItems (d .items) gone)
+  left = table (except (d .present) gone) (sweptItems (d .items) gone)
 
   -- the items that are left are as they were
-  item-at : (place : ℕ) → has (less (d .present) gone) place ≡ true → itemAt left place ≡ itemAt (itemsOf d) place
+  item-at : (place : ℕ) → has (except (d .present) gone) place ≡ true → itemAt left place ≡ itemAt (itemsOf d) place
   unfolding sweptItems
   item-at place held = thinned-row (o .items) (omega arith) gone place held
 
   -- and a fact stands where an item is left
   stands-left : (row : Row) (place : ℕ) → has gone place ≡ false → Stands (itemsOf d) row place → Stands left row place
   stands-left row place kept (there, beside, reads) =
-      let held : has (less (d .present) gone) place ≡ true = less-stays (d .present) gone place (o .items .inside place there) there kept in
+      let held : has (except (d .present) gone) place ≡ true = except-stays (d .present) gone place (o .items .inside place there) there kept in
       (held, ap (λ (item : Item). item .channel) (item-at place held) ∙ beside, reads)
 
-  swept-by : InOrder (withItems (withConnections d (d .attached) (sweptConnections (connectionsOf d) bound gone)) (left .used) (left .rows))
+  swept-by : DeskInOrder (withItems (withConnections d (d .attached) (sweptConnections (connectionsOf d) bound gone)) (left .used) (left .rows))
   unfolding sweptConnections sweptItems
   swept-by = record {
     threads = o .threads;
@@ -196,13 +196,13 @@ module _ {d : Desk} (o : InOrder d) (bound gone : ℕ) (top : bound ≤ never) w
     attached = λ connection used. rw (getD-rowsOf row connectionPlaces connection noConnection (o .connections .inside connection used))
         (swept-row-in-order (connectionAt (connectionsOf d) connection) (isInput (connectionsOf d) connection) bound gone top
         (cleared-in-order (o .attached connection used) left gone (stands-left (connectionAt (connectionsOf d) connection))));
-    timestamps = λ place held. rw (item-at place held) (o .timestamps place (less-was (d .present) gone place held));
+    timestamps = λ place held. rw (item-at place held) (o .timestamps place (except-was (d .present) gone place held));
     one-item-a-pair = λ place other held other-held channel timestamp.
-        o .one-item-a-pair place other (less-was (d .present) gone place held) (less-was (d .present) gone other other-held)
+        o .one-item-a-pair place other (except-was (d .present) gone place held) (except-was (d .present) gone other other-held)
         (rw (item-at place held, item-at other other-held) at channel)
         (rw (item-at place held, item-at other other-held) at timestamp);
   }
 
-pub swept-in-order : {d : Desk} → InOrder d → (bound : ℕ) → bound ≤ never → InOrder (swept d bound)
+pub swept-in-order : {d : Desk} → DeskInOrder d → (bound : ℕ) → bound ≤ never → DeskInOrder (swept d bound)
 unfolding swept
-swept-in-order {d} o bound top = swept-by o bound (leaving (itemsOf d) bound) top
+swept-in-order {d} o bound top = swept-by o bound (itemsBelow (itemsOf d) bound) top

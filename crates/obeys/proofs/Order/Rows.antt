@@ -1,7 +1,7 @@
 -- A connection in order stays so by what a call does to its row, and by other items where its facts stand. Assumes nothing.
 use Rattle.obeys.proofs.Basis.{_≡_, false, true, _⊎_, _≤_, ℕ, ℕ-discrete, arith, has, has-none, cleared, consumedByName, got, raised, inward, never, outward, Row, Item, true-not-false, Table, connected, ConnectionInOrder}
 use Rattle.obeys.proofs.Basis.{Stands}
-use Rattle.obeys.proofs.Words.{not-then, with-was, without-was, without-apart, less-was, less-kept}
+use Rattle.obeys.proofs.Words.{not-then, with-was, without-was, without-apart, except-was, except-kept}
 
 -- a new connection, which has no facts
 pub connected-in-order : (items : Table Item) (direction thread channel mark : ℕ) → (direction ≡ inward) ⊎ (direction ≡ outward) → mark ≤ never
@@ -69,7 +69,7 @@ module _ {items : Table Item} {row : Row} (c : ConnectionInOrder items row) wher
   cleared-in-order others gone stands = record {
     direction = c .direction;
     mark = c .mark;
-    opened = λ place fact. stands place (less-kept (row .opened) gone place fact) (c .opened place (less-was (row .opened) gone place fact));
-    consumed = λ place fact. stands place (less-kept (row .consumed) gone place fact) (c .consumed place (less-was (row .consumed) gone place fact));
-    apart = λ place fact. not-then (less-was (row .consumed) gone place) (c .apart place (less-was (row .opened) gone place fact));
+    opened = λ place fact. stands place (except-kept (row .opened) gone place fact) (c .opened place (except-was (row .opened) gone place fact));
+    consumed = λ place fact. stands place (except-kept (row .consumed) gone place fact) (c .consumed place (except-was (row .consumed) gone place fact));
+    apart = λ place fact. not-then (except-was (row .consumed) gone place) (c .apart place (except-was (row .opened) gone place fact));
   }

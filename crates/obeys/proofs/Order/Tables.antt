@@ -1,7 +1,7 @@
 -- A table stays tidy with another row in one place, and with its rows made by a rule. Assumes nothing.
-use Rattle.obeys.proofs.Basis.{_∙_, _≡_, cond, false, true, List, _<_, _≤_, ℕ, decLt, ℕ-discrete, arith, List·getD-eq-default, getD, length-set, set, getD-set-other, getD-set-same, has, less, bool-cases, rowsOf}
+use Rattle.obeys.proofs.Basis.{_∙_, _≡_, cond, false, true, List, _<_, _≤_, ℕ, decLt, ℕ-discrete, arith, List·getD-eq-default, getD, length-set, set, getD-set-other, getD-set-same, has, except, bool-cases, rowsOf}
 use Rattle.obeys.proofs.Basis.{getD-rowsOf, length-rowsOf, Tidy}
-use Rattle.obeys.proofs.Words.{not-then, Elsewhere, less-was, less-kept, less-stays}
+use Rattle.obeys.proofs.Words.{not-then, Elsewhere, except-was, except-kept, except-stays}
 
 -- rows by a rule, with any word
 pub tidy-by-rule : {A : Type 0} (places : ℕ) (none : A) (used : ℕ) (rule : ℕ → A)
@@ -45,15 +45,15 @@ module _ {A : Type 0} {places : ℕ} {none : A} {used : ℕ} {rows : List A} (ti
   abbrev thinned : ℕ → ℕ → A
   thinned gone place = cond (has gone place) none (getD rows place none)
 
-  pub tidy-thinned : (gone : ℕ) → Tidy places none (less used gone) (rowsOf (thinned gone) places)
+  pub tidy-thinned : (gone : ℕ) → Tidy places none (except used gone) (rowsOf (thinned gone) places)
   tidy-thinned gone =
-      tidy-by-rule places none (less used gone) (thinned gone)
-      (λ place held. tidy .inside place (less-was used gone place held))
+      tidy-by-rule places none (except used gone) (thinned gone)
+      (λ place held. tidy .inside place (except-was used gone place held))
       (λ place unused. bool-cases (has gone place)
       (λ left. rw left)
-      (λ kept. rw kept (tidy .free place (not-then (λ held. less-stays used gone place (omega (arith, tidy .inside place held)) held kept) unused))))
+      (λ kept. rw kept (tidy .free place (not-then (λ held. except-stays used gone place (omega (arith, tidy .inside place held)) held kept) unused))))
 
-  pub thinned-row : (gone place : ℕ) → has (less used gone) place ≡ true → getD (rowsOf (thinned gone) places) place none ≡ getD rows place none
+  pub thinned-row : (gone place : ℕ) → has (except used gone) place ≡ true → getD (rowsOf (thinned gone) places) place none ≡ getD rows place none
   thinned-row gone place held =
-      getD-rowsOf (thinned gone) places place none (tidy .inside place (less-was used gone place held))
-      ∙ rw (less-kept used gone place held)
+      getD-rowsOf (thinned gone) places place none (tidy .inside place (except-was used gone place held))
+      ∙ rw (except-kept used gone place held)

@@ -39,7 +39,7 @@ code-of c =
       opened .before .state-of .ensures,
       owned .is-owned .ensures,
       owned .before .in-use .ensures,
-      owned .before .before .find .ensures,
+      owned .before .before .place-of .ensures,
       owned .before .before .before .before .within .ensures,
     ) at (c .check5 .ensures) in
     by-use (desk-of c) (start c .args .connection) (λ own. rw own at decided) (λ unused. rw unused (rw unused at decided))
@@ -67,7 +67,7 @@ returns c =
     let checked = c .before .before in
     let found = checked .before .before .before .before .before .before .before .before .before .before in
     joined (desk-of checked) _ _ _ _ (code-of checked) (c .before .with-code .ensures)
-    (λ through. (through .0 .taken, rw (through .2, through .1 .ensures, found .find .ensures, found .before .before .within .ensures, used-own (desk-of checked) _ (connection-used checked (through .0 .taken)))))
+    (λ through. (through .0 .taken, rw (through .2, through .1 .ensures, found .place-of .ensures, found .before .before .within .ensures, used-own (desk-of checked) _ (connection-used checked (through .0 .taken)))))
     (λ past. (past .0 .left, rw (past .1)))
     (c .if1 .came)
 

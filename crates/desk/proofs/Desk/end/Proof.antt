@@ -38,7 +38,7 @@ returns c =
     let accepting = freeing .before .before in
     let checked = accepting .before .before in
     let desk = checked .before .before .before .args .t1 in
-    rw (c .less .ensures, c .before .without .ensures, freeing .freed-connections .ensures, freeing .before .owned-by .ensures)
+    rw (c .except .ensures, c .before .without .ensures, freeing .freed-connections .ensures, freeing .before .owned-by .ensures)
     (accepted desk _ _ _ (ended desk _) (code-of checked) (accepting .before .with-code .ensures) (accepting .if1 .taken))
 
 returns-2 : tie.Need-returns-2

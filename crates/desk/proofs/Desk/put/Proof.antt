@@ -41,7 +41,7 @@ code-of c =
       owned .is-owned .ensures,
       owned .before .in-use .ensures,
       owned .before .before .count .ensures,
-      owned .before .before .before .before .find .ensures,
+      owned .before .before .before .before .place-of .ensures,
       read .within .ensures,
       read .before .visible .ensures,
     ) at (c .check7 .ensures) in

@@ -18,8 +18,8 @@ returns c =
     let direction = state-of .before in
     let timestamp = direction .before .before in
     let in-use = timestamp .before .before in
-    let find = in-use .before in
-    let read = find .before .before in
+    let placed = in-use .before in
+    let read = placed .before .before in
     let given = read .before .before .before .args in
     let replied = simp (
       number .number .ensures,
@@ -28,7 +28,7 @@ returns c =
       direction .before .check2 .ensures,
       timestamp .check .ensures,
       in-use .in-use .ensures,
-      find .find .ensures,
+      placed .place-of .ensures,
       read .within .ensures,
     ) at (c .with-code .ensures) in
     by-use (given .self) (given .connection) (λ own. rw own at replied) (λ unused. rw unused (rw unused at replied))

@@ -7,12 +7,12 @@ use native.Mathlib.Omega.{arith}
 use denote.Ref.{now}
 use lib.ListN.{length, set}
 use Rattle.words.specs.Places.{foldTo, each}
-use Rattle.words.specs.Words.{has, lowest, count, less}
+use Rattle.words.specs.Words.{has, lowest, count, except}
 use Rattle.words.proofs.Walk.{each-turn, each-done, each-falls}
 use Rattle.rows.specs.declared.Answer.{Answer}
 use Rattle.rows.specs.Answers.{Check, refusal}
 use Rattle.rows.specs.Numbers.{noItem}
-use Rattle.leaving.specs.Leaving.{leaving, sweptItems, sweptConnections}
+use Rattle.leaving.specs.Leaving.{itemsBelow, sweptItems, sweptConnections}
 use Rattle.leaving.proofs.Left.{emptiedStep, emptied-all, sweptTo, swept-turn, swept-all}
 use Rattle.leaving.proofs.Rows.{length-mapped}
 use Rattle.desk.specs.declared.Desk.{Desk}
@@ -52,8 +52,8 @@ desk-of c = start c .args .t1
 sized : (c : Checked) → (length (desk-of c .connections) ≡ 32) × (length (desk-of c .items) ≡ 64)
 sized c = search (length-mapped, needs)
 
-below-requires : tie.Need-below-requires Inv-loop μ-loop Inv-loop2 μ-loop2
-below-requires c κs = search needs
+items-below-requires : tie.Need-items-below-requires Inv-loop μ-loop Inv-loop2 μ-loop2
+items-below-requires c κs = search needs
 
 count-requires : tie.Need-count-requires Inv-loop μ-loop Inv-loop2 μ-loop2
 count-requires c κs = search needs
@@ -153,8 +153,8 @@ loop2-again c =
       ap (λ (d : Desk). withConnections d (d .attached) (set (here .self .connections) (here .k) (c .swept-row .result))) (here .inv .1) ∙ ap (withConnections desk (desk .attached)) rows,
     )
 
-less-requires : tie.Need-less-requires Inv-loop μ-loop Inv-loop2 μ-loop2
-less-requires c κs = search needs
+except-requires : tie.Need-except-requires Inv-loop μ-loop Inv-loop2 μ-loop2
+except-requires c κs = search needs
 
 same-length : tie.Need-same-length Inv-loop μ-loop Inv-loop2 μ-loop2
 same-length c = search needs
@@ -165,14 +165,14 @@ asked c = slice-long (desk-of c) (start c .args .bound) (now (start c .args .sli
 
 code-of : (c : Checked) → c .check .result ≡ refusal (asked c)
 unfolding refusal
-code-of c = simp (c .check .ensures, c .before .count .ensures, c .before .before .below .ensures)
+code-of c = simp (c .check .ensures, c .before .count .ensures, c .before .before .items-below .ensures)
 
 -- the answer with the desk that both loops leave, once its word of items is stored too
 swept-whole : (d : Desk) (bound : ℕ) {gone present : ℕ} {emptied left : Desk} {answer : Answer} {whole : Next}
-    → gone ≡ leaving (itemsOf d) bound
+    → gone ≡ itemsBelow (itemsOf d) bound
     → emptied ≡ withItems d (d .present) (sweptItems (d .items) gone)
     → left ≡ withConnections emptied (emptied .attached) (sweptConnections (connectionsOf emptied) bound gone)
-    → present ≡ less (left .present) gone
+    → present ≡ except (left .present) gone
     → record { answer = answer; desk = swept d bound } ≡ whole
     → record { answer = answer; desk = withItems left present (left .items) } ≡ whole
 unfolding swept
@@ -186,14 +186,14 @@ returns c =
     let handed = accepting .before .before .before in
     let checked = handed .before .before .before in
     let desk = desk-of checked in
-    let gone = checked .before .before .below .ensures in
+    let gone = checked .before .before .items-below .ensures in
     let emptied = emptying .before .loop in
     let raised = raising .before .loop2 in
     let items = emptied .inv .1 ∙ ap (withItems desk (desk .present)) (each-done 64 emptiedStep (emptied .rest) (emptying .loop-test .left) (emptied .inv .0) (emptied .inv .2)) in
     let long = ap (λ (d : Desk). length (d .connections)) (emptied .inv .1) ∙ sized checked .0 in
     let connections = raised .inv .1 ∙ ap (withConnections (emptied .self) (emptied .self .attached)) (swept-all (connectionsOf (emptied .self)) _ _ (raised .inv .0) (raising .loop2-test .left) long) in
     let answer = rw (checked .before .count .ensures, gone) at (handed .before .before .with-code .ensures) in (
-      swept-whole desk _ gone items connections (c .less .ensures) (accepted desk _ _ _ (swept desk _) (code-of checked) answer (accepting .if1 .taken)),
+      swept-whole desk _ gone items connections (c .except .ensures) (accepted desk _ _ _ (swept desk _) (code-of checked) answer (accepting .if1 .taken)),
       rw gone at (handed .hand-back .ensures),
     )
 
@@ -204,7 +204,7 @@ returns-2 : tie.Need-returns-2 Inv-loop μ-loop Inv-loop2 μ-loop2
 returns-2 c =
     let handed = c .before .before .before in
     let checked = handed .before .before .before in
-    let gone = checked .before .before .below .ensures in
+    let gone = checked .before .before .items-below .ensures in
     let answer = rw (checked .before .count .ensures, gone) at (handed .before .before .with-code .ensures) in
     (refused _ _ _ _ _ (code-of checked) answer (c .if1 .left), rw gone at (handed .hand-back .ensures))
 
@@ -216,7 +216,7 @@ sweep-spec =
     μ-loop
     Inv-loop2
     μ-loop2
-    below-requires
+    items-below-requires
     count-requires
     cast-check
     check-requires
@@ -244,7 +244,7 @@ sweep-spec =
     add-k
     loop2-less
     loop2-again
-    less-requires
+    except-requires
     same-length
     returns
     same-length-2

@@ -6,7 +6,7 @@ use Rattle.rows.proofs.Connection.cleared.Tie as tie
 
 returns : tie.Need-returns
 unfolding cleared
-returns c = rw (c .before .less .ensures, c .less2 .ensures)
+returns c = rw (c .before .except .ensures, c .except2 .ensures)
 
 pub cleared-spec : {M : Type 1} → statement M
 cleared-spec = tie.close (tie.spec (λ c κs. search needs) (λ c κs. search needs) returns)

@@ -8,8 +8,8 @@ use native.Mathlib.Omega.{arith}
 use lib.Dec.{eqb, leb}
 use lib.ListN.{getD}
 use Rattle.words.specs.Places.{each}
-use Rattle.words.specs.Words.{has, less, count, lowest}
-use Rattle.words.proofs.Laws.{less-at}
+use Rattle.words.specs.Words.{has, except, count, lowest}
+use Rattle.words.proofs.Laws.{except-at}
 use Rattle.words.proofs.Walk.{each-and, each-turn, each-done, each-falls}
 use Rattle.rows.specs.declared.Connection.{Connection}
 use Rattle.rows.specs.declared.Item.{Item}
@@ -37,7 +37,7 @@ regroup true true true unopened unconsumed wanted = refl
 
 -- the places that can be UNSEEN
 unseen : ℕ → Connection → ℕ
-unseen present connection = less (less present (connection .opened)) (connection .consumed)
+unseen present connection = except (except present (connection .opened)) (connection .consumed)
 
 module _ (items : List Item) (connection : Connection) (which : Which) where
   -- what is tried in a place that can be UNSEEN
@@ -53,8 +53,8 @@ module _ (items : List Item) (connection : Connection) (which : Which) where
   unfolding isUnseenAt lies lookedAt unseen tried-at
   counts present p inside =
       let item = getD items p noItem in
-      let in-word = less-at (less present (connection .opened)) (connection .consumed) inside
-      ∙ ap (λ (b : Bool). b && not (has (connection .consumed) p)) (less-at present (connection .opened) inside) in
+      let in-word = except-at (except present (connection .opened)) (connection .consumed) inside
+      ∙ ap (λ (b : Bool). b && not (has (connection .consumed) p)) (except-at present (connection .opened) inside) in
       ap (λ (b : Bool). (lies (table present items) connection p && b) && isWanted which item) (unseen-is connection (item .timestamp) p inside)
       ∙ regroup
       (has present p)

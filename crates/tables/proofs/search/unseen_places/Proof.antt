@@ -2,12 +2,12 @@
 use mathlib.Core.Path.{ap, _∙_}
 use Prim.Native.Nat.{ℕ}
 use borrow.Author.Needs.{needs}
-use Rattle.words.specs.Words.{less}
+use Rattle.words.specs.Words.{except}
 use Rattle.tables.proofs.search.unseen_places.Statement.{statement}
 use Rattle.tables.proofs.search.unseen_places.Tie as tie
 
 returns : tie.Need-returns
-returns c = c .less2 .ensures ∙ ap (λ (w : ℕ). less w (c .before .before .args .connection .consumed)) (c .before .less .ensures)
+returns c = c .except2 .ensures ∙ ap (λ (w : ℕ). except w (c .before .before .args .connection .consumed)) (c .before .except .ensures)
 
 pub unseen-places-spec : {M : Type 1} → statement M
 unseen-places-spec = tie.close (tie.spec (λ c κs. search needs) (λ c κs. search needs) returns)

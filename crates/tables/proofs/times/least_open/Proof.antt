@@ -6,7 +6,7 @@ use Rattle.words.specs.Places.{each}
 use Rattle.words.specs.Words.{has, lowest, count}
 use Rattle.words.proofs.Walk.{each-turn, each-done, each-falls}
 use Rattle.tables.specs.Tables.{table}
-use Rattle.tables.proofs.Least.{openStep, readStep, less-if-by, open-turn, least-open-is}
+use Rattle.tables.proofs.Least.{openStep, readStep, least-if-by, open-turn, least-open-is}
 use Rattle.tables.proofs.times.least_open.Statement.{statement}
 use Rattle.tables.proofs.times.least_open.Tie as tie
 
@@ -81,7 +81,7 @@ loop2-again : tie.Need-loop2-again Inv-loop2 μ-loop2 Inv-loop μ-loop
 loop2-again c =
     let turn = c .before .before .before .before .before in
     let here = turn .before .loop2 in
-    let step = less-if-by _ (here .«open») (c .before .before .least-if .ensures) (c .before .before .before .looks-at .ensures) in
+    let step = least-if-by _ (here .«open») (c .before .before .least-if .ensures) (c .before .before .before .looks-at .ensures) in
     (c .lowest3 .ensures, each-turn 64 _ (here .left) (here .«open») (omega arith) (turn .loop2-test .taken) (here .inv .0) step (c .before .without .ensures) (here .inv .1))
 
 least-if-requires-2 : tie.Need-least-if-requires-2 Inv-loop2 μ-loop2 Inv-loop μ-loop

@@ -6,7 +6,7 @@ use Rattle.tables.proofs.times.open_places.Statement.{statement}
 use Rattle.tables.proofs.times.open_places.Tie as tie
 
 returns : tie.Need-returns
-returns c = rw (c .before .before .if1 .taken) (c .both .ensures ∙ ap (both _) (c .before .less .ensures))
+returns c = rw (c .before .before .if1 .taken) (c .both .ensures ∙ ap (both _) (c .before .except .ensures))
 
 pub open-places-spec : {M : Type 1} → statement M
 open-places-spec = tie.close (tie.spec (λ c κs. search needs) (λ c κs. search needs) returns (λ c. search needs))

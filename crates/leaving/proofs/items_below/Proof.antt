@@ -1,4 +1,4 @@
--- `leaving::below` meets its contract. Assumes nothing.
+-- `leaving::items_below` meets its contract. Assumes nothing.
 use mathlib.Core.Path.{_≡_, refl}
 use mathlib.Core.Bool.{Bool}
 use mathlib.Core.List.{List}
@@ -13,22 +13,22 @@ use Rattle.words.proofs.Walk.{each-turn, each-done, each-falls}
 use Rattle.rows.specs.declared.Item.{Item}
 use Rattle.rows.specs.Numbers.{noItem}
 use Rattle.tables.specs.Tables.{table}
-use Rattle.leaving.specs.Leaving.{leaves, leaving}
-use Rattle.tables.proofs.Used.{joined, joined-all}
-use Rattle.leaving.proofs.below.Statement.{statement}
-use Rattle.leaving.proofs.below.Tie as tie
+use Rattle.leaving.specs.Leaving.{isBelow, itemsBelow}
+use Rattle.tables.proofs.Used.{gathered, gathered-all}
+use Rattle.leaving.proofs.items_below.Statement.{statement}
+use Rattle.leaving.proofs.items_below.Tie as tie
 
 -- what the loop tests in a place
 is-below : List Item → ℕ → ℕ → Bool
 is-below items bound p = ltb (getD items p noItem .timestamp) bound
 
-whole : (items : List Item) (present bound : ℕ) → each 64 (has present) (joined (is-below items bound)) 0 ≡ leaving (table present items) bound
-unfolding leaving leaves is-below
-whole items present bound = joined-all 64 present (leaves (table present items) bound) (is-below items bound) (omega arith) (λ p inside. refl)
+whole : (items : List Item) (present bound : ℕ) → each 64 (has present) (gathered (is-below items bound)) 0 ≡ itemsBelow (table present items) bound
+unfolding itemsBelow isBelow is-below
+whole items present bound = gathered-all 64 present (isBelow (table present items) bound) (is-below items bound) (omega arith) (λ p inside. refl)
 
 abbrev Inv-loop : tie.InvT-loop
 Inv-loop present bound items gone₀ rest₀ p₀ gone rest p =
-    (p ≡ lowest rest) × (each 64 (has rest) (joined (is-below items bound)) gone ≡ leaving (table present items) bound)
+    (p ≡ lowest rest) × (each 64 (has rest) (gathered (is-below items bound)) gone ≡ itemsBelow (table present items) bound)
 
 abbrev μ-loop : tie.MeasureT-loop
 μ-loop present bound items gone₀ rest₀ p₀ gone rest p = count rest
@@ -71,7 +71,7 @@ loop-again c =
       c .lowest2 .ensures,
       each-turn
           64
-          (joined (is-below (args .t1) (args .bound)))
+          (gathered (is-below (args .t1) (args .bound)))
           (at .loop .rest)
           (at .loop .gone)
           (omega arith)
@@ -86,8 +86,8 @@ returns : tie.Need-returns Inv-loop μ-loop
 returns c =
     each-done 64 _ (c .before .loop .rest) (c .loop-test .left) (c .before .loop .inv .0) (c .before .loop .inv .1)
 
-pub below-spec : {M : Type 1} → statement M
-below-spec =
+pub items-below-spec : {M : Type 1} → statement M
+items-below-spec =
     tie.close
     (tie.spec
     Inv-loop

@@ -1,4 +1,4 @@
--- `tables::search::find` meets its contract. Assumes nothing.
+-- `tables::search::place_of` meets its contract. Assumes nothing.
 use mathlib.Core.Path.{_≡_, refl}
 use mathlib.Core.Logic.{⊎-elim}
 use mathlib.Core.Bool.{Bool, _&&_, and-false}
@@ -16,8 +16,8 @@ use Rattle.rows.proofs.Laws.{and-both}
 use Rattle.tables.specs.Tables.{table}
 use Rattle.tables.specs.Seen.{isItem, placeOf}
 use Rattle.tables.proofs.Lowest.{lowestIn, search-here, search-turn, search-done}
-use Rattle.tables.proofs.search.find.Statement.{statement}
-use Rattle.tables.proofs.search.find.Tie as tie
+use Rattle.tables.proofs.search.place_of.Statement.{statement}
+use Rattle.tables.proofs.search.place_of.Tie as tie
 
 -- what the loop tests in a place
 is-it : List Item → ℕ → ℕ → ℕ → Bool
@@ -93,8 +93,8 @@ returns-2 : tie.Need-returns-2 Inv-loop μ-loop
 returns-2 c =
     search-done _ (c .before .loop .rest) (c .loop-test .left) (c .before .loop .inv .0) (c .before .loop .inv .1)
 
-pub find-spec : {M : Type 1} → statement M
-find-spec =
+pub place-of-spec : {M : Type 1} → statement M
+place-of-spec =
     tie.close
     (tie.spec
     Inv-loop
