@@ -1,4 +1,4 @@
--- Document 01, "Calls, and the order of their checks" and "Sweeps": each call as its refusals in order, its effect, its value and its time.
+-- Document 01, "Calls, and the order of their checks" and "Sweeps": each call as its refusals in order, its effect, and what it tells.
 -- Assumes nothing.
 use mathlib.Core.Bool.{Bool, true, false, cond}
 use mathlib.Core.List.{List, [], _∷_}
@@ -10,6 +10,7 @@ use Rattle.rows.specs.declared.Connection.{Connection}
 use Rattle.rows.specs.declared.Item.{Item}
 use Rattle.calls.specs.declared.Bound.{Bound}
 use Rattle.calls.specs.declared.Bound.the-variants.{Weak, Strong}
+use Rattle.calls.specs.declared.Deed.{Deed}
 use Rattle.calls.specs.declared.Deed.the-variants.{Channel, NewThread, AttachInput, AttachOutput, Detach, End, Set, Put, Get, Consume, ConsumeUntil}
 use Rattle.calls.specs.declared.Which.{Which}
 use Rattle.calls.specs.declared.Which.the-variants.{Earliest, Latest, Named}
@@ -17,8 +18,7 @@ use Rattle.calls.specs.Calls.{Call, by, sweep}
 use Rattle.calls.specs.States.{isOpen}
 use Rattle.rows.specs.declared.Found.{Found}
 use Rattle.rows.specs.declared.Found.the-variants.{At, Nothing}
-use Rattle.rows.specs.Answers.{Check, needs, refusal, answered}
-use Rattle.rows.specs.Choices.{ticketOf}
+use Rattle.rows.specs.Answers.{Told, tells, answer, refusal, Check, needs, decided}
 use Rattle.rows.specs.Facts.{got, consumedByName, raised}
 use Rattle.rows.specs.Numbers.{never, noThread, noConnection, input, output}
 use Rattle.tables.specs.Tables.{connectionAt, isLiving, owns, threadPlaces, channelPlaces, connectionPlaces, itemPlaces}
@@ -52,40 +52,40 @@ itemsPresent d = count (d .present)
 
 -- 1: "no such living thread"
 abbrev pub thread-lives : Desk → ℕ → Check
-thread-lives d thread = needs (isLiving (threadsOf d) thread) 1
+thread-lives d thread = needs (isLiving (threadsOf d) thread) (refusal 1)
 
 -- 2: "no such channel"
 abbrev pub channel-exists : Desk → ℕ → Check
-channel-exists d channel = needs (isChannel d channel) 2
+channel-exists d channel = needs (isChannel d channel) (refusal 2)
 
 -- 3: "no such connection, or another thread's"
 abbrev pub connection-owned : Desk → ℕ → ℕ → Check
-connection-owned d thread connection = needs (owns (connectionsOf d) thread connection) 3
+connection-owned d thread connection = needs (owns (connectionsOf d) thread connection) (refusal 3)
 
 -- 4: "connection of the other direction"
 abbrev pub connection-goes : Desk → ℕ → ℕ → Check
-connection-goes d connection direction = needs (eqb (connectionAt (connectionsOf d) connection .direction) direction) 4
+connection-goes d connection direction = needs (eqb (connectionAt (connectionsOf d) connection .direction) direction) (refusal 4)
 
 -- 5: "never given where a timestamp is needed"
 abbrev pub timestamp-given : ℕ → Check
-timestamp-given timestamp = needs (ltb timestamp never) 5
+timestamp-given timestamp = needs (ltb timestamp never) (refusal 5)
 
 -- 6: "time below the caller's visible time". "Put, set and new thread need a time not below the caller's visible time (6)."
 abbrev pub time-visible : Desk → ℕ → ℕ → Check
-time-visible d thread time = needs (leb (visibleTime d thread) time) 6
+time-visible d thread time = needs (leb (visibleTime d thread) time) (refusal 6)
 
 -- 7: "timestamp already present in the channel"
 abbrev pub timestamp-absent : Desk → ℕ → ℕ → Check
 timestamp-absent d connection timestamp =
-    needs (leb itemPlaces (placeOf (itemsOf d) (connectionAt (connectionsOf d) connection .channel) timestamp)) 7
+    needs (leb itemPlaces (placeOf (itemsOf d) (connectionAt (connectionsOf d) connection .channel) timestamp)) (refusal 7)
 
 -- 8: "64 items present"
 abbrev pub item-fits : Desk → Check
-item-fits d = needs (ltb (itemsPresent d) itemPlaces) 8
+item-fits d = needs (ltb (itemsPresent d) itemPlaces) (refusal 8)
 
 -- 9: "the table has no free place"
 abbrev pub place-free : ℕ → ℕ → Check
-place-free place places = needs (ltb place places) 9
+place-free place places = needs (ltb place places) (refusal 9)
 
 -- 10: "no UNSEEN item that fits"
 abbrev pub isFound : Found → Bool
@@ -97,7 +97,7 @@ abbrev pub soughtBy : Desk → ℕ → Which → Found
 soughtBy d connection which = sought (itemsOf d) (connectionAt (connectionsOf d) connection) which
 
 abbrev pub item-found : Desk → ℕ → Which → Check
-item-found d connection which = needs (isFound (soughtBy d connection which)) 10
+item-found d connection which = needs (isFound (soughtBy d connection which)) (refusal 10)
 
 -- "Only a named one can meet 5."
 abbrev pub isGiven : Which → Bool
@@ -106,62 +106,57 @@ isGiven Latest = true
 isGiven (Named timestamp) = ltb timestamp never
 
 abbrev pub which-given : Which → Check
-which-given which = needs (isGiven which) 5
+which-given which = needs (isGiven which) (refusal 5)
 
 -- 11: "item is not OPEN on the connection"
 abbrev pub item-open : Desk → ℕ → ℕ → Check
-item-open d connection timestamp = needs (isOpen (state (itemsOf d) (connectionAt (connectionsOf d) connection) timestamp)) 11
+item-open d connection timestamp = needs (isOpen (state (itemsOf d) (connectionAt (connectionsOf d) connection) timestamp)) (refusal 11)
 
 -- "A sweep takes its bound."
 abbrev pub boundOf : Desk → Bound → ℕ
 boundOf d Weak = weakBound d
 boundOf d Strong = strongBound d
 
--- 12: "slice shorter than the items to hand back"
+-- 12: "slice shorter than the items to hand back", ".. except 12, whose value is the number of items to hand back."
 abbrev pub slice-long : Desk → ℕ → List ℕ → Check
-slice-long d bound slice = needs (leb (count (itemsBelow (itemsOf d) bound)) (length slice)) 12
+slice-long d bound slice =
+    needs (leb (count (itemsBelow (itemsOf d) bound)) (length slice)) (answer 12 (count (itemsBelow (itemsOf d) bound)) 0)
 
--- "Refusals are tested in the order written here."
-unfoldable pub checks : Desk → Call → List Check
-checks d (by thread Channel) = thread-lives d thread ∷ place-free (freeChannel d) channelPlaces ∷ []
-checks d (by thread (NewThread time)) =
-    thread-lives d thread ∷ time-visible d thread time ∷ place-free (freeThread d) threadPlaces ∷ []
-checks d (by thread (AttachInput channel)) =
-    thread-lives d thread ∷ channel-exists d channel ∷ place-free (freeConnection d) connectionPlaces ∷ []
-checks d (by thread (AttachOutput channel)) =
-    thread-lives d thread ∷ channel-exists d channel ∷ place-free (freeConnection d) connectionPlaces ∷ []
-checks d (by thread (Detach connection)) = thread-lives d thread ∷ connection-owned d thread connection ∷ []
-checks d (by thread End) = thread-lives d thread ∷ []
-checks d (by thread (Set time)) = thread-lives d thread ∷ time-visible d thread time ∷ []
-checks d (by thread (Put connection timestamp ticket)) =
-    thread-lives d thread
-    ∷ connection-owned d thread connection
+-- what a thread does, with the refusals after 1. "Refusals are tested in the order written here."
+abbrev deedChecks : Desk → ℕ → Deed → List Check
+deedChecks d thread Channel = place-free (freeChannel d) channelPlaces ∷ []
+deedChecks d thread (NewThread time) = time-visible d thread time ∷ place-free (freeThread d) threadPlaces ∷ []
+deedChecks d thread (AttachInput channel) = channel-exists d channel ∷ place-free (freeConnection d) connectionPlaces ∷ []
+deedChecks d thread (AttachOutput channel) = channel-exists d channel ∷ place-free (freeConnection d) connectionPlaces ∷ []
+deedChecks d thread (Detach connection) = connection-owned d thread connection ∷ []
+deedChecks d thread End = []
+deedChecks d thread (Set time) = time-visible d thread time ∷ []
+deedChecks d thread (Put connection timestamp ticket) =
+    connection-owned d thread connection
     ∷ connection-goes d connection output
     ∷ timestamp-given timestamp
     ∷ time-visible d thread timestamp
     ∷ timestamp-absent d connection timestamp
     ∷ item-fits d
     ∷ []
-checks d (by thread (Get connection which)) =
-    thread-lives d thread
-    ∷ connection-owned d thread connection
+deedChecks d thread (Get connection which) =
+    connection-owned d thread connection
     ∷ connection-goes d connection input
     ∷ which-given which
     ∷ item-found d connection which
     ∷ []
-checks d (by thread (Consume connection timestamp)) =
-    thread-lives d thread
-    ∷ connection-owned d thread connection
+deedChecks d thread (Consume connection timestamp) =
+    connection-owned d thread connection
     ∷ connection-goes d connection input
     ∷ timestamp-given timestamp
     ∷ item-open d connection timestamp
     ∷ []
-checks d (by thread (ConsumeUntil connection timestamp)) =
-    thread-lives d thread
-    ∷ connection-owned d thread connection
-    ∷ connection-goes d connection input
-    ∷ timestamp-given timestamp
-    ∷ []
+deedChecks d thread (ConsumeUntil connection timestamp) =
+    connection-owned d thread connection ∷ connection-goes d connection input ∷ timestamp-given timestamp ∷ []
+
+-- a call that names a thread is first asked whether it lives; a sweep names none
+unfoldable pub checks : Desk → Call → List Check
+checks d (by thread deed) = thread-lives d thread ∷ deedChecks d thread deed
 checks d (sweep bound slice) = slice-long d (boundOf d bound) slice ∷ []
 
 -- ---- the effects
@@ -206,68 +201,60 @@ swept d bound =
     (except (d .present) (itemsBelow (itemsOf d) bound))
     (sweptItems (d .items) (itemsBelow (itemsOf d) bound))
 
-unfoldable pub effect : Desk → Call → Desk
-effect d (by thread Channel) = withChannels d (with (d .channels) (freeChannel d))
-effect d (by thread (NewThread time)) = adopted d time
-effect d (by thread (AttachInput channel)) = attachedAs d (connected input thread channel (visibleTime d thread))
-effect d (by thread (AttachOutput channel)) = attachedAs d (connected output thread channel 0)
-effect d (by thread (Detach connection)) =
+abbrev deedEffect : Desk → ℕ → Deed → Desk
+deedEffect d thread Channel = withChannels d (with (d .channels) (freeChannel d))
+deedEffect d thread (NewThread time) = adopted d time
+deedEffect d thread (AttachInput channel) = attachedAs d (connected input thread channel (visibleTime d thread))
+deedEffect d thread (AttachOutput channel) = attachedAs d (connected output thread channel 0)
+deedEffect d thread (Detach connection) =
     withConnections d (without (d .attached) connection) (set (d .connections) connection noConnection)
-effect d (by thread End) = ended d thread
-effect d (by thread (Set time)) = withThreads d (d .living) (set (d .threads) thread (record { time = time }))
-effect d (by thread (Put connection timestamp ticket)) =
+deedEffect d thread End = ended d thread
+deedEffect d thread (Set time) = withThreads d (d .living) (set (d .threads) thread (record { time = time }))
+deedEffect d thread (Put connection timestamp ticket) =
     stored d (record { channel = connectionAt (connectionsOf d) connection .channel; timestamp = timestamp; ticket = ticket })
-effect d (by thread (Get connection which)) = becomesOpen d connection (soughtBy d connection which)
-effect d (by thread (Consume connection timestamp)) =
+deedEffect d thread (Get connection which) = becomesOpen d connection (soughtBy d connection which)
+deedEffect d thread (Consume connection timestamp) =
     withConnection d connection
     (consumedByName (connectionAt (connectionsOf d) connection)
     (placeOf (itemsOf d) (connectionAt (connectionsOf d) connection .channel) timestamp))
-effect d (by thread (ConsumeUntil connection timestamp)) =
+deedEffect d thread (ConsumeUntil connection timestamp) =
     withConnection d connection (raised (connectionAt (connectionsOf d) connection) (timestamp + 1))
+
+unfoldable pub effect : Desk → Call → Desk
+effect d (by thread deed) = deedEffect d thread deed
 effect d (sweep bound slice) = swept d (boundOf d bound)
 
 -- ---- the answers
 
-abbrev pub timestampOf : Found → ℕ
-timestampOf (At place item) = item .timestamp
-timestampOf Nothing = 0
+-- "ticket, timestamp"
+abbrev pub foundTold : Found → Told
+foundTold (At place item) = tells (item .ticket) (item .timestamp)
+foundTold Nothing = tells 0 0
 
-unfoldable pub value : Desk → Call → ℕ
-value d (by thread Channel) = freeChannel d
-value d (by thread (NewThread time)) = freeThread d
-value d (by thread (AttachInput channel)) = freeConnection d
-value d (by thread (AttachOutput channel)) = freeConnection d
-value d (by thread (Detach connection)) = 0
-value d (by thread End) = 0
-value d (by thread (Set time)) = 0
-value d (by thread (Put connection timestamp ticket)) = 0
-value d (by thread (Get connection which)) = ticketOf (soughtBy d connection which)
-value d (by thread (Consume connection timestamp)) = 0
-value d (by thread (ConsumeUntil connection timestamp)) = 0
-value d (sweep bound slice) = count (itemsBelow (itemsOf d) (boundOf d bound))
+-- the value and the time of an accepted call
+abbrev deedTold : Desk → ℕ → Deed → Told
+deedTold d thread Channel = tells (freeChannel d) 0
+deedTold d thread (NewThread time) = tells (freeThread d) 0
+deedTold d thread (AttachInput channel) = tells (freeConnection d) (visibleTime d thread)
+deedTold d thread (AttachOutput channel) = tells (freeConnection d) 0
+deedTold d thread (Detach connection) = tells 0 0
+deedTold d thread End = tells 0 0
+deedTold d thread (Set time) = tells 0 0
+deedTold d thread (Put connection timestamp ticket) = tells 0 0
+deedTold d thread (Get connection which) = foundTold (soughtBy d connection which)
+deedTold d thread (Consume connection timestamp) = tells 0 0
+deedTold d thread (ConsumeUntil connection timestamp) = tells 0 0
 
-unfoldable pub time : Desk → Call → ℕ
-time d (by thread Channel) = 0
-time d (by thread (NewThread when)) = 0
-time d (by thread (AttachInput channel)) = visibleTime d thread
-time d (by thread (AttachOutput channel)) = 0
-time d (by thread (Detach connection)) = 0
-time d (by thread End) = 0
-time d (by thread (Set when)) = 0
-time d (by thread (Put connection timestamp ticket)) = 0
-time d (by thread (Get connection which)) = timestampOf (soughtBy d connection which)
-time d (by thread (Consume connection timestamp)) = 0
-time d (by thread (ConsumeUntil connection timestamp)) = 0
-time d (sweep bound slice) = boundOf d bound
+unfoldable pub told : Desk → Call → Told
+told d (by thread deed) = deedTold d thread deed
+told d (sweep bound slice) = tells (count (itemsBelow (itemsOf d) (boundOf d bound))) (boundOf d bound)
 
--- an answer and the next desk, from the checks, the value, the time and the desk that is next where all checks hold.
--- A refusal "leaves the desk and the slice as they were".
-unfoldable pub outcome : Desk → List Check → ℕ → ℕ → Desk → Next
-outcome d tests value time next =
-    record { answer = answered (refusal tests) value time; desk = cond (eqb (refusal tests) 0) next d }
+-- the answer, and the next desk: the one that is given where all checks hold. A refusal "leaves the desk and the slice as they were".
+unfoldable pub outcome : Desk → List Check → Told → Desk → Next
+outcome d tests tells next = record { answer = decided tests tells; desk = cond (eqb (decided tests tells .code) 0) next d }
 
 unfoldable pub step : Desk → Call → Next
-step d call = outcome d (checks d call) (value d call) (time d call) (effect d call)
+step d call = outcome d (checks d call) (told d call) (effect d call)
 
 -- the slice that a sweep was lent, afterwards; the other calls are lent none
 unfoldable pub sliceAfter : Desk → Call → List ℕ

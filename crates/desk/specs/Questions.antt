@@ -4,7 +4,7 @@ use Prim.Native.Nat.{ℕ}
 use Rattle.calls.specs.Questions.{Question, visible-time, weak-bound, strong-bound, state-of, items-present}
 use Rattle.calls.specs.States.{stateNumber}
 use Rattle.rows.specs.declared.Answer.{Answer}
-use Rattle.rows.specs.Answers.{Check, needs, refusal, answered}
+use Rattle.rows.specs.Answers.{Told, tells, refusal, Check, needs, decided}
 use Rattle.rows.specs.Numbers.{input}
 use Rattle.tables.specs.Tables.{connectionAt, isConnection}
 use Rattle.tables.specs.Seen.{state}
@@ -15,7 +15,7 @@ use Rattle.desk.specs.Calls.{thread-lives, connection-goes, timestamp-gi
 
 -- "3 where there is no such connection, 4, 5; no thread is named"
 abbrev pub connection-exists : Desk → ℕ → Check
-connection-exists d connection = needs (isConnection (connectionsOf d) connection) 3
+connection-exists d connection = needs (isConnection (connectionsOf d) connection) (refusal 3)
 
 unfoldable pub questionChecks : Desk → Question → List Check
 questionChecks d (visible-time thread) = thread-lives d thread ∷ []
@@ -25,22 +25,15 @@ questionChecks d (state-of connection timestamp) =
     connection-exists d connection ∷ connection-goes d connection input ∷ timestamp-given timestamp ∷ []
 questionChecks d items-present = []
 
--- "A state stands in the value, .., and the number of items stands in the value, both with time 0."
-unfoldable pub replyValue : Desk → Question → ℕ
-replyValue d (visible-time thread) = 0
-replyValue d weak-bound = 0
-replyValue d strong-bound = 0
-replyValue d (state-of connection timestamp) =
-    stateNumber (state (itemsOf d) (connectionAt (connectionsOf d) connection) timestamp)
-replyValue d items-present = itemsPresent d
-
--- "A visible time or a bound stands in the time, with value 0."
-unfoldable pub replyTime : Desk → Question → ℕ
-replyTime d (visible-time thread) = visibleTime d thread
-replyTime d weak-bound = weakBound d
-replyTime d strong-bound = strongBound d
-replyTime d (state-of connection timestamp) = 0
-replyTime d items-present = 0
+-- "A visible time or a bound stands in the time, with value 0. A state stands in the value, .., and the number of items stands in the value, both with
+-- time 0."
+unfoldable pub questionTold : Desk → Question → Told
+questionTold d (visible-time thread) = tells 0 (visibleTime d thread)
+questionTold d weak-bound = tells 0 (weakBound d)
+questionTold d strong-bound = tells 0 (strongBound d)
+questionTold d (state-of connection timestamp) =
+    tells (stateNumber (state (itemsOf d) (connectionAt (connectionsOf d) connection) timestamp)) 0
+questionTold d items-present = tells (itemsPresent d) 0
 
 unfoldable pub reply : Desk → Question → Answer
-reply d question = answered (refusal (questionChecks d question)) (replyValue d question) (replyTime d question)
+reply d question = decided (questionChecks d question) (questionTold d question)

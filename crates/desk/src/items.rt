@@ -10,7 +10,7 @@ use rows::Answer;
 use rows::Connection;
 use rows::Found;
 use rows::Item;
-use rows::answers::check;
+use rows::answers::needs;
 use tables::places::in_use;
 use tables::places::within;
 use tables::search::place_of;
@@ -44,31 +44,18 @@ impl Desk {
         let connections = self.connections;
         let mut items = self.items;
         let visible = self.visible(thread);
-        let row = connections[within(connection, Desk::CONNECTIONS) as usize];
+        let near = connections[within(connection, Desk::CONNECTIONS) as usize];
+        let row = near.where_there(connection < Desk::CONNECTIONS);
         let same = place_of(items, self.present, row.channel, timestamp);
         let place = words::lowest_free(self.present);
         let number = words::count(self.present);
-        let code = check(
-            in_use(self.living, thread, Desk::THREADS),
-            1,
-            check(
-                is_owned(self.attached, connection, row, thread),
-                3,
-                check(
-                    row.direction == Connection::OUTPUT,
-                    4,
-                    check(
-                        timestamp < Desk::NEVER,
-                        5,
-                        check(
-                            visible <= timestamp,
-                            6,
-                            check(Desk::ITEMS <= same, 7, check(number < Desk::ITEMS, 8, 0)),
-                        ),
-                    ),
-                ),
-            ),
-        );
+        let code = needs(0, in_use(self.living, thread, Desk::THREADS), 1);
+        let code = needs(code, is_owned(self.attached, connection, row, thread), 3);
+        let code = needs(code, row.direction == Connection::OUTPUT, 4);
+        let code = needs(code, timestamp < Desk::NEVER, 5);
+        let code = needs(code, visible <= timestamp, 6);
+        let code = needs(code, Desk::ITEMS <= same, 7);
+        let code = needs(code, number < Desk::ITEMS, 8);
         let answer = Answer::with_code(code, 0, 0);
         if code == 0 {
             items[place as usize] = Item {
@@ -87,21 +74,14 @@ impl Desk {
     {
         let mut connections = self.connections;
         let items = self.items;
-        let row = connections[within(connection, Desk::CONNECTIONS) as usize];
+        let near = connections[within(connection, Desk::CONNECTIONS) as usize];
+        let row = near.where_there(connection < Desk::CONNECTIONS);
         let found = seek(items, self.present, row, which);
-        let code = check(
-            in_use(self.living, thread, Desk::THREADS),
-            1,
-            check(
-                is_owned(self.attached, connection, row, thread),
-                3,
-                check(
-                    row.direction == Connection::INPUT,
-                    4,
-                    check(is_given(which), 5, check(is_found(found), 10, 0)),
-                ),
-            ),
-        );
+        let code = needs(0, in_use(self.living, thread, Desk::THREADS), 1);
+        let code = needs(code, is_owned(self.attached, connection, row, thread), 3);
+        let code = needs(code, row.direction == Connection::INPUT, 4);
+        let code = needs(code, is_given(which), 5);
+        let code = needs(code, is_found(found), 10);
         let Found::At(place, item) = found else {
             return Next {
                 answer: Answer::with_code(code, 0, 0),
@@ -121,25 +101,14 @@ impl Desk {
     {
         let mut connections = self.connections;
         let items = self.items;
-        let row = connections[within(connection, Desk::CONNECTIONS) as usize];
+        let near = connections[within(connection, Desk::CONNECTIONS) as usize];
+        let row = near.where_there(connection < Desk::CONNECTIONS);
         let place = place_of(items, self.present, row.channel, timestamp);
-        let code = check(
-            in_use(self.living, thread, Desk::THREADS),
-            1,
-            check(
-                is_owned(self.attached, connection, row, thread),
-                3,
-                check(
-                    row.direction == Connection::INPUT,
-                    4,
-                    check(
-                        timestamp < Desk::NEVER,
-                        5,
-                        check(row.state_of(timestamp, place).is_open(), 11, 0),
-                    ),
-                ),
-            ),
-        );
+        let code = needs(0, in_use(self.living, thread, Desk::THREADS), 1);
+        let code = needs(code, is_owned(self.attached, connection, row, thread), 3);
+        let code = needs(code, row.direction == Connection::INPUT, 4);
+        let code = needs(code, timestamp < Desk::NEVER, 5);
+        let code = needs(code, row.state_of(timestamp, place).is_open(), 11);
         let answer = Answer::with_code(code, 0, 0);
         if code == 0 {
             connections[connection as usize] = row.consumed_by_name(place);
@@ -152,20 +121,12 @@ impl Desk {
         ensures { λ r. ⌜ r ≡ step self (consume-until thread connection timestamp) ⌝ }
     {
         let mut connections = self.connections;
-        let row = connections[within(connection, Desk::CONNECTIONS) as usize];
-        let code = check(
-            in_use(self.living, thread, Desk::THREADS),
-            1,
-            check(
-                is_owned(self.attached, connection, row, thread),
-                3,
-                check(
-                    row.direction == Connection::INPUT,
-                    4,
-                    check(timestamp < Desk::NEVER, 5, 0),
-                ),
-            ),
-        );
+        let near = connections[within(connection, Desk::CONNECTIONS) as usize];
+        let row = near.where_there(connection < Desk::CONNECTIONS);
+        let code = needs(0, in_use(self.living, thread, Desk::THREADS), 1);
+        let code = needs(code, is_owned(self.attached, connection, row, thread), 3);
+        let code = needs(code, row.direction == Connection::INPUT, 4);
+        let code = needs(code, timestamp < Desk::NEVER, 5);
         let answer = Answer::with_code(code, 0, 0);
         if code == 0 {
             connections[connection as usize] = row.raised(timestamp + 1);

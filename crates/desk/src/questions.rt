@@ -5,7 +5,7 @@ ghost use Rattle.desk.specs.Questions.{reply};
 use crate::Desk;
 use rows::Answer;
 use rows::Connection;
-use rows::answers::check;
+use rows::answers::needs;
 use tables::places::in_use;
 use tables::places::within;
 use tables::search::place_of;
@@ -15,7 +15,7 @@ impl Desk {
         ensures { λ r. ⌜ r ≡ reply self (visible-time thread) ⌝ }
     {
         let visible = self.visible(thread);
-        let code = check(in_use(self.living, thread, Desk::THREADS), 1, 0);
+        let code = needs(0, in_use(self.living, thread, Desk::THREADS), 1);
         Answer::with_code(code, 0, visible)
     }
 
@@ -36,17 +36,12 @@ impl Desk {
     {
         let connections = self.connections;
         let items = self.items;
-        let row = connections[within(connection, Desk::CONNECTIONS) as usize];
+        let near = connections[within(connection, Desk::CONNECTIONS) as usize];
+        let row = near.where_there(connection < Desk::CONNECTIONS);
         let place = place_of(items, self.present, row.channel, timestamp);
-        let code = check(
-            in_use(self.attached, connection, Desk::CONNECTIONS),
-            3,
-            check(
-                row.direction == Connection::INPUT,
-                4,
-                check(timestamp < Desk::NEVER, 5, 0),
-            ),
-        );
+        let code = needs(0, in_use(self.attached, connection, Desk::CONNECTIONS), 3);
+        let code = needs(code, row.direction == Connection::INPUT, 4);
+        let code = needs(code, timestamp < Desk::NEVER, 5);
         Answer::with_code(code, row.state_of(timestamp, place).number(), 0)
     }
 

@@ -8,7 +8,7 @@ use leaving::freed_connections;
 use leaving::owned_by;
 use rows::Answer;
 use rows::Thread;
-use rows::answers::check;
+use rows::answers::needs;
 use tables::places::in_use;
 
 impl Desk {
@@ -16,11 +16,8 @@ impl Desk {
         ensures { λ r. ⌜ r ≡ step self (new-channel thread) ⌝ }
     {
         let place = words::lowest_free(self.channels);
-        let code = check(
-            in_use(self.living, thread, Desk::THREADS),
-            1,
-            check(place < Desk::CHANNELS, 9, 0),
-        );
+        let code = needs(0, in_use(self.living, thread, Desk::THREADS), 1);
+        let code = needs(code, place < Desk::CHANNELS, 9);
         let answer = Answer::with_code(code, place as u64, 0);
         if code == 0 {
             self.channels = words::with(self.channels, place);
@@ -34,11 +31,9 @@ impl Desk {
         let mut threads = self.threads;
         let visible = self.visible(thread);
         let place = words::lowest_free(self.living);
-        let code = check(
-            in_use(self.living, thread, Desk::THREADS),
-            1,
-            check(visible <= time, 6, check(place < Desk::THREADS, 9, 0)),
-        );
+        let code = needs(0, in_use(self.living, thread, Desk::THREADS), 1);
+        let code = needs(code, visible <= time, 6);
+        let code = needs(code, place < Desk::THREADS, 9);
         let answer = Answer::with_code(code, place as u64, 0);
         if code == 0 {
             threads[place as usize] = Thread { time };
@@ -52,7 +47,7 @@ impl Desk {
         ensures { λ r. ⌜ r ≡ step self (end thread) ⌝ }
     {
         let connections = self.connections;
-        let code = check(in_use(self.living, thread, Desk::THREADS), 1, 0);
+        let code = needs(0, in_use(self.living, thread, Desk::THREADS), 1);
         let answer = Answer::with_code(code, 0, 0);
         if code == 0 {
             let gone = owned_by(connections, self.attached, thread);
@@ -70,11 +65,8 @@ impl Desk {
     {
         let mut threads = self.threads;
         let visible = self.visible(thread);
-        let code = check(
-            in_use(self.living, thread, Desk::THREADS),
-            1,
-            check(visible <= time, 6, 0),
-        );
+        let code = needs(0, in_use(self.living, thread, Desk::THREADS), 1);
+        let code = needs(code, visible <= time, 6);
         let answer = Answer::with_code(code, 0, 0);
         if code == 0 {
             threads[thread as usize] = Thread { time };

@@ -1,16 +1,14 @@
--- The laws of one row: of yes and no, of a chain of checks, of the four states, of answers and of times. Assumes nothing.
+-- The laws of one row: of yes and no, of the four states and of times. Assumes nothing.
 use mathlib.Core.Path.{_≡_, refl, sym, _∙_, ap}
 use mathlib.Core.Bool.{Bool, true, false, cond, not, _&&_, true≢false, false≢true}
 pub use mathlib.Core.Bool.{and-assoc, and-comm}
-use mathlib.Core.List.{List, [], _∷_}
 use Prim.Native.Nat.{ℕ, _<_, min}
 use lib.Dec.{eqb, leb, ltb}
-use borrow.Author.Tests.{ltb-true, ltb-false, le-leb, lt-leb, eqb-false}
+use borrow.Author.Tests.{ltb-true, ltb-false, le-leb, lt-leb}
 use Rattle.rows.specs.declared.Connection.{Connection}
 use Rattle.calls.specs.declared.State.the-variants.{Consumed}
 use Rattle.calls.specs.States.{isUnseen, isOpen, isPending}
 use Rattle.rows.specs.States.{byName, stateOf}
-use Rattle.rows.specs.Answers.{Check, refusing, refusal, answer, answered}
 use Rattle.rows.specs.Times.{leastIf}
 use Rattle.words.specs.Words.{has}
 
@@ -37,34 +35,6 @@ bool-cases false if-true if-false = if-false refl
 pub cond-same : {A : Type 0} (b : Bool) (x : A) → cond b x x ≡ x
 cond-same true x = refl
 cond-same false x = refl
-
--- ---- a chain of checks
-
--- every check holds
-abbrev pub Pass : List Check → Type 0
-Pass [] = Unit {0}
-Pass (c ∷ checks) = (c .holds ≡ true) × Pass checks
-
--- no check refuses with 0, which would look accepted
-abbrev pub Codes : List Check → Type 0
-Codes [] = Unit {0}
-Codes (c ∷ checks) = (eqb (c .code) 0 ≡ false) × Codes checks
-
-first-held : (holds : Bool) (code rest : ℕ) → eqb code 0 ≡ false → refusing holds code rest ≡ 0 → (holds ≡ true) × (rest ≡ 0)
-first-held true code rest coded accepted = (refl, accepted)
-first-held false code rest coded accepted = absurd (eqb-false code 0 coded accepted)
-
-pub passed : (checks : List Check) → Codes checks → refusal checks ≡ 0 → Pass checks
-unfolding refusal
-passed [] codes accepted = tt
-passed (c ∷ checks) codes accepted =
-    let first = first-held (c .holds) (c .code) (refusal checks) (codes .0) accepted in
-    (first .0, passed checks (codes .1) (first .1))
-
-pub pass-refusal : (checks : List Check) → Pass checks → refusal checks ≡ 0
-unfolding refusal
-pass-refusal [] pass = refl
-pass-refusal (c ∷ checks) pass = rw (pass .0) (pass-refusal checks (pass .1))
 
 -- ---- the four states
 
@@ -105,16 +75,6 @@ module _ (c : Connection) (s p : ℕ) (inside : p < 64) where
 
   pub pending-is : isPending (stateOf c s p) ≡ (leb (c .mark) s && not (has (c .consumed) p))
   pending-is = ap isPending (state-present c s p inside) ∙ pending-by (leb (c .mark) s) (has (c .opened) p) (has (c .consumed) p)
-
--- ---- answers
-
-pub answered-zero : (value time : ℕ) → answered 0 value time ≡ answer 0 value time
-unfolding answered
-answered-zero value time = refl
-
-pub answered-none : (code : ℕ) → eqb code 12 ≡ false → (value time : ℕ) → eqb code 0 ≡ false → answered code value time ≡ answer code 0 0
-unfolding answered
-answered-none code not-short value time refused = simp (refused, not-short)
 
 -- ---- times
 

@@ -1,31 +1,31 @@
 // How a call is answered: the first check that fails gives the code.
 ghost use mathlib.Core.Path.{_≡_};
-ghost use Rattle.rows.specs.Answers.{refusing, answered};
+ghost use Rattle.rows.specs.Answers.{checked, tells, telling, withCode};
 use crate::Answer;
 
-// One check of a call: its code where it fails, and where it holds what the checks after it say.
-pub fn check(holds: bool, code: u32, rest: u32) -> u32
-    ensures { λ r. ⌜ r ≡ refusing holds code rest ⌝ }
+// One check more of a call: its code where it fails, unless an earlier one has failed.
+pub fn needs(code: u32, holds: bool, refusing: u32) -> u32
+    ensures { λ r. ⌜ r ≡ checked code holds refusing ⌝ }
 {
-    if holds {
-        return rest;
+    if code != 0 {
+        return code;
     }
-    code
+    if holds {
+        return 0;
+    }
+    refusing
 }
 
 impl Answer {
-    // The answer with this code: a refusal keeps no value, but for 12, and no time.
+    // The answer with this code: an accepted call tells its value and its time, a refused one nothing.
     pub fn with_code(code: u32, value: u64, time: u32) -> Answer
-        ensures { λ r. ⌜ r ≡ answered code value time ⌝ }
+        ensures { λ r. ⌜ r ≡ withCode code (tells value time) ⌝ }
     {
         if code == 0 {
-            return Answer { code, value, time };
-        }
-        if code == 12 {
             return Answer {
-                code,
+                code: 0,
                 value,
-                time: 0,
+                time,
             };
         }
         Answer {
@@ -33,5 +33,15 @@ impl Answer {
             value: 0,
             time: 0,
         }
+    }
+
+    // The same answer, but for the refusal with the code of this one, which tells more.
+    pub fn telling(self, refused: Answer) -> Answer
+        ensures { λ r. ⌜ r ≡ telling self refused ⌝ }
+    {
+        if self.code == refused.code {
+            return refused;
+        }
+        self
     }
 }

@@ -1,48 +1,54 @@
--- `desk::Desk::attach` meets its contract. Assumes nothing.
+-- The codes in turn are 01's by the contracts of what the checks look at; attach input has the same as attach output. 9 says that the lowest free place
+-- is one of the table's. Assumes nothing.
+use mathlib.Core.Path.{_≡_, refl, _∙_}
 use borrow.Author.Needs.{needs}
 use borrow.Author.Tests.{ltb-true}
-use mathlib.Core.Path.{_≡_, refl, sym, _∙_}
-use mathlib.Core.List.{List}
-use Rattle.rows.specs.Answers.{Check, refusal}
-use Rattle.rows.proofs.Laws.{passed}
-use Rattle.calls.specs.Calls.{attach-output}
+use Rattle.rows.proofs.Checks.{inTurn}
+use Rattle.desk.specs.declared.Desk.{Desk}
+use Rattle.calls.specs.Calls.{Call, attach-output}
 use Rattle.desk.specs.Calls.{attachedAs, checks}
-use Rattle.desk.proofs.Outcome.{joined}
+use Rattle.desk.proofs.Outcome.{facts, answered, either-way}
 use Rattle.desk.proofs.Desk.attach.Statement.{statement}
 use Rattle.desk.proofs.Desk.attach.Tie as tie
 
--- 01's checks of the call; attach input has the same
-abbrev asked : tie.After-check3 → List Check
-asked c =
-    let given = c .before .before .before .before .before .before .before .args in
-    checks (given .self) (attach-output (given .thread) (given .channel))
+-- of the place where the code is known: the start, the desk, and the call that 01 describes
+abbrev start : tie.After-needs3 → tie.Start
+start c = c .before .before .before .before .before .before .before
 
-code-of : (c : tie.After-check3) → c .check3 .result ≡ refusal (asked c)
-unfolding refusal checks
+abbrev desk-of : tie.After-needs3 → Desk
+desk-of c = start c .args .self
+
+abbrev call-of : tie.After-needs3 → Call
+call-of c = let given = start c .args in attach-output (given .thread) (given .channel)
+
+-- the codes in turn are those of 01's checks
+code-of : (c : tie.After-needs3) → c .needs3 .result ≡ inTurn 0 (checks (desk-of c) (call-of c))
+unfolding checks inTurn
 code-of c =
-    let checking = c .before .before in
-    let exists = checking .before in
-    let lives = exists .before in
-    let free = lives .before .lowest-free .ensures in
-    simp (c .check3 .ensures, c .before .check2 .ensures, checking .check .ensures, exists .in-use2 .ensures, lives .in-use .ensures, free)
+    let exists = c .before .before in
+    simp (
+      c .needs3 .ensures,
+      c .before .needs2 .ensures,
+      exists .in-use2 .ensures,
+      exists .before .needs .ensures,
+      exists .before .before .in-use .ensures,
+      exists .before .before .before .lowest-free .ensures,
+    )
 
--- the check of the free place holds, so it is in the table
 array-set-from-connections : tie.Need-array-set-from-connections
 unfolding checks
 array-set-from-connections c =
     let checked = c .before .before in
-    let free = checked .before .before .before .before .before .lowest-free .ensures in
-    let pass = passed (asked checked) (refl, (refl, (refl, tt))) (sym (code-of checked) ∙ c .if1 .taken) in
-    rw free (ltb-true _ _ (pass .1 .1 .0))
+    rw (checked .before .before .before .before .before .lowest-free .ensures)
+    (ltb-true _ _ (facts (desk-of checked) (call-of checked) (code-of checked) (c .if1 .taken) .held 9))
 
 returns : tie.Need-returns
-unfolding attachedAs
+unfolding checks attachedAs
 returns c =
     let checked = c .before .before in
-    let free = checked .before .before .before .before .before .lowest-free .ensures in
-    let answer = rw free at (c .before .with-code .ensures) in
-    joined _ _ _ _ _ (code-of checked) answer
-    (λ through. (through .0 .taken, rw (through .2, through .3, through .1 .ensures, free)))
+    let free = checked .before .before .before .before .before in
+    either-way (desk-of checked) _ (answered _ _ refl (code-of checked) (c .before .with-code .ensures ∙ rw (free .lowest-free .ensures)))
+    (λ through. (through .0 .taken, rw (through .2, through .3, through .1 .ensures, free .lowest-free .ensures)))
     (λ past. (past .0 .left, rw (past .1, past .2)))
     (c .if1 .came)
 

@@ -1,12 +1,12 @@
 -- `desk::Desk::attach_input` meets its contract. Assumes nothing.
 use borrow.Author.Needs.{needs}
-use Rattle.desk.specs.Calls.{step, checks, effect, value, time}
+use Rattle.desk.specs.Calls.{step, checks, effect, told}
 use Rattle.desk.proofs.Desk.attach_input.Statement.{statement}
 use Rattle.desk.proofs.Desk.attach_input.Tie as tie
 
 -- the new connection's mark is the thread's visible time
 returns : tie.Need-returns
-unfolding step checks effect value time
+unfolding step checks effect told
 returns c = rw (c .before .visible .ensures) at (c .attach .ensures)
 
 pub attach-input-spec : {M : Type 1} → statement M

@@ -1,11 +1,11 @@
 -- `desk::Desk::attach_output` meets its contract. Assumes nothing.
 use borrow.Author.Needs.{needs}
-use Rattle.desk.specs.Calls.{step, checks, effect, value, time}
+use Rattle.desk.specs.Calls.{step, checks, effect, told}
 use Rattle.desk.proofs.Desk.attach_output.Statement.{statement}
 use Rattle.desk.proofs.Desk.attach_output.Tie as tie
 
 returns : tie.Need-returns
-unfolding step checks effect value time
+unfolding step checks effect told
 returns c = c .attach .ensures
 
 pub attach-output-spec : {M : Type 1} → statement M

@@ -1,36 +1,47 @@
--- `desk::Desk::channel` meets its contract. Assumes nothing.
+-- The codes in turn are 01's by the contracts of what the checks look at, and the one store is the effect. Assumes nothing.
+use mathlib.Core.Path.{_≡_, refl, ap, _∙_}
+use Prim.Native.Nat.{ℕ}
 use borrow.Author.Needs.{needs}
-use mathlib.Core.Path.{_≡_, _∙_}
-use Rattle.rows.specs.Answers.{refusal}
-use Rattle.calls.specs.Calls.{new-channel}
-use Rattle.desk.specs.Calls.{step, checks, effect, value, time}
-use Rattle.desk.proofs.Outcome.{accepted, refused}
+use Rattle.rows.proofs.Checks.{inTurn}
+use Rattle.rows.specs.Answers.{tells, withCode}
+use Rattle.desk.specs.declared.Desk.{Desk}
+use Rattle.calls.specs.Calls.{Call, new-channel}
+use Rattle.desk.specs.Calls.{step, checks, effect, told}
+use Rattle.desk.proofs.Outcome.{Answered, answered, accepted, refused}
 use Rattle.desk.proofs.Desk.channel.Statement.{statement}
 use Rattle.desk.proofs.Desk.channel.Tie as tie
 
--- the code is that of 01's checks
-code-of : (c : tie.After-check2) → c .check2 .result ≡ refusal (checks (c .before .before .before .before .args .self) (new-channel (c .before .before .before .before .args .thread)))
-unfolding refusal checks
+-- of the place where the code is known: the start, the desk, and the call that 01 describes
+abbrev start : tie.After-needs2 → tie.Start
+start c = c .before .before .before .before
+
+abbrev desk-of : tie.After-needs2 → Desk
+desk-of c = start c .args .self
+
+abbrev call-of : tie.After-needs2 → Call
+call-of c = let given = start c .args in new-channel (given .thread)
+
+-- the codes in turn are those of 01's checks
+code-of : (c : tie.After-needs2) → c .needs2 .result ≡ inTurn 0 (checks (desk-of c) (call-of c))
+unfolding checks inTurn
 code-of c =
-    let check2 = c .check2 in
-    let check = c .before .check in
-    let in-use = c .before .before .in-use in
-    simp (check2 .ensures, check .ensures, in-use .ensures, c .before .before .before .lowest-free .ensures)
+    let lives = c .before .before in
+    simp (c .needs2 .ensures, c .before .needs .ensures, lives .in-use .ensures, lives .before .lowest-free .ensures)
+
+answer-of : (c : tie.After-with-code) → let checked = c .before in
+    Answered (checks (desk-of checked) (call-of checked)) (told (desk-of checked) (call-of checked)) (checked .needs2 .result) (c .with-code .result)
+unfolding checks told
+answer-of c = answered _ _ refl (code-of (c .before)) (c .with-code .ensures ∙ ap (λ (n : ℕ). withCode (c .before .needs2 .result) (tells n 0)) (c .before .before .before .before .lowest-free .ensures))
 
 returns : tie.Need-returns
-unfolding step effect value time
+unfolding step effect
 returns c =
-    let k = c .before .before .before in
-    let a = k .before .before .before .before .args in
-    let free = k .before .before .before .lowest-free in
-    rw (c .with .ensures, free .ensures) (accepted (a .self) _ _ _ _ (code-of k) (c .before .before .with-code .ensures ∙ rw (free .ensures)) (c .before .if1 .taken))
+    let answering = c .before .before in
+    rw (c .with .ensures, answering .before .before .before .before .lowest-free .ensures) (accepted (desk-of (answering .before)) _ (answer-of answering) (c .before .if1 .taken))
 
 returns-2 : tie.Need-returns-2
-unfolding step effect value time
-returns-2 c =
-    let k = c .before .before in
-    let a = k .before .before .before .before .args in
-    refused (a .self) _ _ _ _ (code-of k) (c .before .with-code .ensures ∙ rw (k .before .before .before .lowest-free .ensures)) (c .if1 .left)
+unfolding step
+returns-2 c = refused (desk-of (c .before .before)) _ (answer-of (c .before)) (c .if1 .left)
 
 pub channel-spec : {M : Type 1} → statement M
 channel-spec =

@@ -1,73 +1,83 @@
--- `desk::Desk::consume` meets its contract. Assumes nothing.
-use mathlib.Core.Path.{_≡_, refl}
-use mathlib.Core.Bool.{true}
+-- The codes in turn are 01's by the contracts of what the checks look at. 3 says that the connection is the thread's, so its place is one of the table's,
+-- and the row that is stored there is that with the item's place consumed by name. Assumes nothing.
+use mathlib.Core.Path.{_≡_, refl, _∙_}
+use Prim.Native.Nat.{_<_}
 use native.Mathlib.Omega.{arith}
+use lib.ListN.{length}
 use borrow.Author.Needs.{needs}
-use Rattle.rows.specs.Answers.{refusal}
-use Rattle.tables.specs.Tables.{inUse, owns}
+use Rattle.rows.proofs.Checks.{inTurn}
+use Rattle.tables.specs.Tables.{connectionAt, owns}
 use Rattle.tables.specs.Seen.{state}
+use Rattle.leaving.proofs.Rows.{length-mapped}
 use Rattle.desk.specs.declared.Desk.{Desk}
 use Rattle.calls.specs.Calls.{Call, consume}
-use Rattle.desk.specs.Calls.{step, checks, effect, value, time}
-use Rattle.desk.proofs.Outcome.{joined}
-use Rattle.desk.proofs.Owned.{used-inside, read-inside, used-own, by-use, accepted-used}
+use Rattle.desk.specs.Desk.{connectionsOf}
+use Rattle.desk.specs.Calls.{step, checks, effect, told}
+use Rattle.desk.proofs.Outcome.{facts, answered, either-way}
+use Rattle.desk.proofs.Owned.{owned-below, read-inside, row-read}
 use Rattle.desk.proofs.Desk.consume.Statement.{statement}
 use Rattle.desk.proofs.Desk.consume.Tie as tie
 
 -- of the place where the code is known: the start, the desk, and the call that 01 describes
-abbrev start : tie.After-check5 → tie.Start
-start c = c .before .before .before .before .before .before .before .before .before .before .before .before .before .before .before
+abbrev start : tie.After-needs5 → tie.Start
+start c = c .before .before .before .before .before .before .before .before .before .before .before .before .before .before .before .before
 
-abbrev desk-of : tie.After-check5 → Desk
+abbrev desk-of : tie.After-needs5 → Desk
 desk-of c = start c .args .self
 
-abbrev call-of : tie.After-check5 → Call
+abbrev call-of : tie.After-needs5 → Call
 call-of c = let given = start c .args in consume (given .thread) (given .connection) (given .timestamp)
 
--- the code is that of 01's checks
-code-of : (c : tie.After-check5) → c .check5 .result ≡ refusal (checks (desk-of c) (call-of c))
-unfolding refusal checks owns state
+-- the row that is read is the connection's
+row-of : (c : tie.After-where-there) → let given = c .before .before .before .before .before .args in c .where-there .result ≡ connectionAt (connectionsOf (given .self)) (given .connection)
+row-of c =
+    let given = c .before .before .before .before .before .args in
+    let long : length (given .self .connections) ≡ 32 = search (length-mapped, needs) in
+    rw (c .before .before .within .ensures) at (c .where-there .ensures) ∙ row-read (given .self .connections) (given .connection) long
+
+array-copy-out-near : tie.Need-array-copy-out-near
+array-copy-out-near c = rw (c .within .ensures) (read-inside (c .before .before .before .args .connection))
+
+-- the codes in turn are those of 01's checks
+code-of : (c : tie.After-needs5) → c .needs5 .result ≡ inTurn 0 (checks (desk-of c) (call-of c))
+unfolding checks inTurn owns state
 code-of c =
-    let opened = c .before .before .before .before .before in
-    let owned = opened .before .before .before in
-    let decided = simp (
-      c .before .check4 .ensures,
-      c .before .before .check3 .ensures,
-      c .before .before .before .check2 .ensures,
-      c .before .before .before .before .check .ensures,
-      opened .is-open .ensures,
-      opened .before .state-of .ensures,
+    let owned = c .before .before .before .before .before .before .before in
+    let found = c .before .before .before .before .before .before .before .before .before .before in
+    simp (
+      c .needs5 .ensures,
+      c .before .is-open .ensures,
+      c .before .before .state-of .ensures,
+      c .before .before .before .needs4 .ensures,
+      c .before .before .before .before .needs3 .ensures,
+      c .before .before .before .before .before .before .needs2 .ensures,
       owned .is-owned .ensures,
-      owned .before .in-use .ensures,
-      owned .before .before .place-of .ensures,
-      owned .before .before .before .before .within .ensures,
-    ) at (c .check5 .ensures) in
-    by-use (desk-of c) (start c .args .connection) (λ own. rw own at decided) (λ unused. rw unused (rw unused at decided))
+      owned .before .needs .ensures,
+      owned .before .before .in-use .ensures,
+      found .place-of .ensures,
+      row-of (found .before),
+    )
 
--- an accepted call names a connection in use
-connection-used : (c : tie.After-check5) → c .check5 .result ≡ 0 → inUse (desk-of c .attached) (start c .args .connection) 32 ≡ true
+-- an accepted call names a connection of the table
+connection-below : (c : tie.After-needs5) → c .needs5 .result ≡ 0 → start c .args .connection < 32
 unfolding checks
-connection-used c zero =
-    accepted-used (desk-of c) (start c .args .thread) (start c .args .connection) _ (code-of c) (refl, (refl, (refl, tt))) zero
-
-array-copy-out-row : tie.Need-array-copy-out-row
-array-copy-out-row c = rw (c .within .ensures) (read-inside (c .before .before .before .args .connection))
+connection-below c zero = owned-below (desk-of c) _ _ (facts (desk-of c) (call-of c) (code-of c) zero .held 3)
 
 mul-connections : tie.Need-mul-connections
 mul-connections c =
-    let inside = used-inside _ (connection-used (c .before .before .before) (c .before .if1 .taken)) in
+    let inside = connection-below (c .before .before .before) (c .before .if1 .taken) in
     omega arith
 
 array-set-from-connections : tie.Need-array-set-from-connections
-array-set-from-connections c = used-inside _ (connection-used (c .before .before .before) (c .before .if1 .taken))
+array-set-from-connections c = connection-below (c .before .before .before) (c .before .if1 .taken)
 
 returns : tie.Need-returns
-unfolding step effect value time
+unfolding step checks told effect
 returns c =
     let checked = c .before .before in
     let found = checked .before .before .before .before .before .before .before .before .before .before in
-    joined (desk-of checked) _ _ _ _ (code-of checked) (c .before .with-code .ensures)
-    (λ through. (through .0 .taken, rw (through .2, through .1 .ensures, found .place-of .ensures, found .before .before .within .ensures, used-own (desk-of checked) _ (connection-used checked (through .0 .taken)))))
+    either-way (desk-of checked) _ (answered _ _ refl (code-of checked) (c .before .with-code .ensures))
+    (λ through. (through .0 .taken, rw (through .2, through .1 .ensures, found .place-of .ensures, row-of (found .before))))
     (λ past. (past .0 .left, rw (past .1)))
     (c .if1 .came)
 
@@ -78,7 +88,8 @@ consume-spec =
     (λ c κs. search needs)
     (λ c. search needs)
     (λ c. search needs)
-    array-copy-out-row
+    array-copy-out-near
+    (λ c κs. search needs)
     (λ c κs. search needs)
     (λ c κs. search needs)
     (λ c κs. search needs)

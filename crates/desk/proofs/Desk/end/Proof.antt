@@ -1,49 +1,51 @@
--- `desk::Desk::end` meets its contract. Assumes nothing.
+-- The one check is 1, by which the thread's place is one of the table's; the places that are freed are those of `ownedBy`, and the four stores together
+-- are `ended`. Assumes nothing.
+use mathlib.Core.Path.{_≡_, refl}
 use borrow.Author.Needs.{needs}
-use borrow.Author.Tests.{ltb-true}
-use mathlib.Core.Path.{_≡_, refl, sym, _∙_}
-use mathlib.Core.List.{List}
-use Rattle.rows.specs.Answers.{Check, refusal}
-use Rattle.rows.proofs.Laws.{and-left, passed}
-use Rattle.tables.specs.Tables.{inUse}
-use Rattle.calls.specs.Calls.{end}
-use Rattle.desk.specs.Calls.{step, checks, effect, ended, value, time}
-use Rattle.desk.proofs.Outcome.{accepted, refused}
+use Rattle.rows.proofs.Checks.{inTurn}
+use Rattle.desk.specs.declared.Desk.{Desk}
+use Rattle.calls.specs.Calls.{Call, end}
+use Rattle.desk.specs.Calls.{step, checks, effect, ended, told}
+use Rattle.desk.proofs.Outcome.{Answered, facts, answered, accepted, refused}
+use Rattle.desk.proofs.Owned.{used-inside}
 use Rattle.desk.proofs.Desk.end.Statement.{statement}
 use Rattle.desk.proofs.Desk.end.Tie as tie
 
--- 01's checks of the call
-abbrev asked : tie.After-check → List Check
-asked c =
-    let given = c .before .before .before .args in
-    checks (given .t1) (end (given .thread))
+-- of the place where the code is known: the desk, and the call that 01 describes
+abbrev desk-of : tie.After-needs → Desk
+desk-of c = c .before .before .before .args .t1
 
-code-of : (c : tie.After-check) → c .check .result ≡ refusal (asked c)
-unfolding refusal checks
-code-of c = simp (c .check .ensures, c .before .in-use .ensures)
+abbrev call-of : tie.After-needs → Call
+call-of c = end (c .before .before .before .args .thread)
 
--- the check of the thread holds, so its place is in the table
+-- the codes in turn are those of 01's checks
+code-of : (c : tie.After-needs) → c .needs .result ≡ inTurn 0 (checks (desk-of c) (call-of c))
+unfolding checks inTurn
+code-of c = simp (c .needs .ensures, c .before .in-use .ensures)
+
+answer-of : (c : tie.After-with-code) → let checked = c .before in
+    Answered (checks (desk-of checked) (call-of checked)) (told (desk-of checked) (call-of checked)) (checked .needs .result) (c .with-code .result)
+unfolding checks told
+answer-of c = answered _ _ refl (code-of (c .before)) (c .with-code .ensures)
+
 element-set-from-self : tie.Need-element-set-from-self
-unfolding checks inUse
+unfolding checks
 element-set-from-self c =
     let accepting = c .before .before in
     let checked = accepting .before .before in
-    let pass = passed (asked checked) (refl, tt) (sym (code-of checked) ∙ accepting .if1 .taken) in
-    ltb-true _ _ (and-left _ _ (pass .0))
+    used-inside (desk-of checked .living) (facts (desk-of checked) (call-of checked) (code-of checked) (accepting .if1 .taken) .held 1)
 
 returns : tie.Need-returns
-unfolding step effect ended value time
+unfolding step effect ended
 returns c =
     let freeing = c .before .before in
     let accepting = freeing .before .before in
-    let checked = accepting .before .before in
-    let desk = checked .before .before .before .args .t1 in
     rw (c .except .ensures, c .before .without .ensures, freeing .freed-connections .ensures, freeing .before .owned-by .ensures)
-    (accepted desk _ _ _ (ended desk _) (code-of checked) (accepting .before .with-code .ensures) (accepting .if1 .taken))
+    (accepted (desk-of (accepting .before .before)) (ended _ _) (answer-of (accepting .before)) (accepting .if1 .taken))
 
 returns-2 : tie.Need-returns-2
-unfolding step effect value time
-returns-2 c = refused _ _ _ _ _ (code-of (c .before .before)) (c .before .with-code .ensures) (c .if1 .left)
+unfolding step
+returns-2 c = refused (desk-of (c .before .before)) _ (answer-of (c .before)) (c .if1 .left)
 
 pub end-spec : {M : Type 1} → statement M
 end-spec =

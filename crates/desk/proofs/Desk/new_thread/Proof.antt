@@ -1,37 +1,52 @@
--- `desk::Desk::new_thread` meets its contract. Assumes nothing.
-use borrow.Author.Tests.{ltb-true}
-use Rattle.desk.proofs.Outcome.{joined}
-use Rattle.calls.specs.Calls.{new-thread}
-use Rattle.desk.specs.Calls.{step, checks, effect, value, time, adopted}
-use Rattle.rows.proofs.Laws.{passed}
-use Rattle.rows.specs.Answers.{refusal}
-use mathlib.Core.Path.{_≡_, refl, sym, _∙_}
+-- The codes in turn are 01's by the contracts of what the checks look at. 9 says that the lowest free place is one of the table's. Assumes nothing.
+use mathlib.Core.Path.{_≡_, refl, _∙_}
 use borrow.Author.Needs.{needs}
+use borrow.Author.Tests.{ltb-true}
+use Rattle.rows.proofs.Checks.{inTurn}
+use Rattle.desk.specs.declared.Desk.{Desk}
+use Rattle.calls.specs.Calls.{Call, new-thread}
+use Rattle.desk.specs.Calls.{step, checks, effect, told, adopted}
+use Rattle.desk.proofs.Outcome.{facts, answered, either-way}
 use Rattle.desk.proofs.Desk.new_thread.Statement.{statement}
 use Rattle.desk.proofs.Desk.new_thread.Tie as tie
 
--- the code is that of 01's checks
-code-of : (c : tie.After-check3) → let a = c .before .before .before .before .before .before .before .args in c .check3 .result ≡ refusal (checks (a .self) (new-thread (a .thread) (a .time)))
-unfolding refusal checks
+-- of the place where the code is known: the start, the desk, and the call that 01 describes
+abbrev start : tie.After-needs3 → tie.Start
+start c = c .before .before .before .before .before .before .before
+
+abbrev desk-of : tie.After-needs3 → Desk
+desk-of c = start c .args .self
+
+abbrev call-of : tie.After-needs3 → Call
+call-of c = let given = start c .args in new-thread (given .thread) (given .time)
+
+-- the codes in turn are those of 01's checks
+code-of : (c : tie.After-needs3) → c .needs3 .result ≡ inTurn 0 (checks (desk-of c) (call-of c))
+unfolding checks inTurn
 code-of c =
-    let in-use = c .before .before .before in
-    let free = in-use .before in
-    simp (c .check3 .ensures, c .before .check2 .ensures, c .before .before .check .ensures, in-use .in-use .ensures, free .lowest-free .ensures, free .before .visible .ensures)
+    let lives = c .before .before .before in
+    simp (
+      c .needs3 .ensures,
+      c .before .needs2 .ensures,
+      c .before .before .needs .ensures,
+      lives .in-use .ensures,
+      lives .before .lowest-free .ensures,
+      lives .before .before .visible .ensures,
+    )
 
 array-set-from-threads : tie.Need-array-set-from-threads
 unfolding checks
 array-set-from-threads c =
-    let k = c .before .before in
-    let free = k .before .before .before .before in
-    let a = free .before .before .before .args in
-    rw (free .lowest-free .ensures) (ltb-true _ _ (passed (checks (a .self) (new-thread (a .thread) (a .time))) (refl, (refl, (refl, tt))) (sym (code-of k) ∙ c .if1 .taken) .1 .1 .0))
+    let checked = c .before .before in
+    rw (checked .before .before .before .before .lowest-free .ensures)
+    (ltb-true _ _ (facts (desk-of checked) (call-of checked) (code-of checked) (c .if1 .taken) .held 9))
 
 returns : tie.Need-returns
-unfolding step effect value time adopted
+unfolding step checks told effect adopted
 returns c =
-    let k = c .before .before in
-    let free = k .before .before .before .before in
-    joined (free .before .before .before .args .self) _ _ _ _ (code-of k) (c .before .with-code .ensures ∙ rw (free .lowest-free .ensures))
+    let checked = c .before .before in
+    let free = checked .before .before .before .before in
+    either-way (desk-of checked) _ (answered _ _ refl (code-of checked) (c .before .with-code .ensures ∙ rw (free .lowest-free .ensures)))
     (λ through. (through .0 .taken, rw (through .2, through .3, through .1 .ensures, free .lowest-free .ensures)))
     (λ past. (past .0 .left, rw (past .1, past .2)))
     (c .if1 .came)

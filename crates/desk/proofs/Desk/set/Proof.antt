@@ -1,35 +1,43 @@
--- `desk::Desk::set` meets its contract. Assumes nothing.
-use Rattle.desk.proofs.Outcome.{joined}
-use Rattle.desk.proofs.Owned.{used-inside}
-use Rattle.calls.specs.Calls.{set-time}
-use Rattle.desk.specs.Calls.{step, checks, effect, value, time}
-use Rattle.rows.proofs.Laws.{passed}
-use Rattle.rows.specs.Answers.{refusal}
-use mathlib.Core.Path.{_≡_, refl, sym, _∙_}
+-- The codes in turn are 01's by the contracts of what the checks look at. 1 says that the thread lives, so its place is one of the table's. Assumes nothing.
+use mathlib.Core.Path.{_≡_, refl}
 use borrow.Author.Needs.{needs}
+use Rattle.rows.proofs.Checks.{inTurn}
+use Rattle.desk.specs.declared.Desk.{Desk}
+use Rattle.calls.specs.Calls.{Call, set-time}
+use Rattle.desk.specs.Calls.{step, checks, effect, told}
+use Rattle.desk.proofs.Outcome.{facts, answered, either-way}
+use Rattle.desk.proofs.Owned.{used-inside}
 use Rattle.desk.proofs.Desk.set.Statement.{statement}
 use Rattle.desk.proofs.Desk.set.Tie as tie
 
--- the code is that of 01's checks
-code-of : (c : tie.After-check2) → let a = c .before .before .before .before .before .args in c .check2 .result ≡ refusal (checks (a .self) (set-time (a .thread) (a .time)))
-unfolding refusal checks
+-- of the place where the code is known: the start, the desk, and the call that 01 describes
+abbrev start : tie.After-needs2 → tie.Start
+start c = c .before .before .before .before .before
+
+abbrev desk-of : tie.After-needs2 → Desk
+desk-of c = start c .args .self
+
+abbrev call-of : tie.After-needs2 → Call
+call-of c = let given = start c .args in set-time (given .thread) (given .time)
+
+-- the codes in turn are those of 01's checks
+code-of : (c : tie.After-needs2) → c .needs2 .result ≡ inTurn 0 (checks (desk-of c) (call-of c))
+unfolding checks inTurn
 code-of c =
-    let in-use = c .before .before in
-    simp (c .check2 .ensures, c .before .check .ensures, in-use .in-use .ensures, in-use .before .visible .ensures)
+    let lives = c .before .before in
+    simp (c .needs2 .ensures, c .before .needs .ensures, lives .in-use .ensures, lives .before .visible .ensures)
 
 array-set-from-threads : tie.Need-array-set-from-threads
 unfolding checks
 array-set-from-threads c =
-    let k = c .before .before in
-    let a = k .before .before .before .before .before .args in
-    used-inside (a .self .living) (passed (checks (a .self) (set-time (a .thread) (a .time))) (refl, (refl, tt)) (sym (code-of k) ∙ c .if1 .taken) .0)
+    let checked = c .before .before in
+    used-inside (desk-of checked .living) (facts (desk-of checked) (call-of checked) (code-of checked) (c .if1 .taken) .held 1)
 
 returns : tie.Need-returns
-unfolding step effect value time
+unfolding step checks told effect
 returns c =
-    let k = c .before .before in
-    let self = k .before .before .before .before .before .args .self in
-    joined self _ _ _ _ (code-of k) (c .before .with-code .ensures)
+    let checked = c .before .before in
+    either-way (desk-of checked) _ (answered _ _ refl (code-of checked) (c .before .with-code .ensures))
     (λ through. (through .0 .taken, rw (through .1)))
     (λ past. (past .0 .left, rw (past .1)))
     (c .if1 .came)

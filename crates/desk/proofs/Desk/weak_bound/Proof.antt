@@ -1,14 +1,14 @@
--- `desk::Desk::weak_bound` meets its contract. Assumes nothing.
-use Rattle.rows.specs.Answers.{refusal}
-use Rattle.desk.specs.Questions.{reply, questionChecks, replyValue, replyTime}
+-- No check can refuse. The time is the weak bound, by its contract. Assumes nothing.
 use mathlib.Core.Path.{_∙_}
 use borrow.Author.Needs.{needs}
+use Rattle.rows.specs.Answers.{decided, withCode}
+use Rattle.desk.specs.Questions.{reply, questionChecks, questionTold}
 use Rattle.desk.proofs.Desk.weak_bound.Statement.{statement}
 use Rattle.desk.proofs.Desk.weak_bound.Tie as tie
 
 returns : tie.Need-returns
-unfolding reply questionChecks replyValue replyTime refusal
-returns c = c .with-code .ensures ∙ simp (c .before .weak .ensures)
+unfolding reply questionChecks questionTold decided withCode
+returns c = c .with-code .ensures ∙ rw (c .before .weak .ensures)
 
 pub weak-bound-spec : {M : Type 1} → statement M
 weak-bound-spec = tie.close (tie.spec (λ c κs. search needs) (λ c κs. search needs) returns)

@@ -1,12 +1,12 @@
 -- `desk::Desk::weak_sweep` meets its contract. Assumes nothing.
 use borrow.Author.Needs.{needs}
-use Rattle.desk.specs.Calls.{step, checks, effect, sliceAfter, value, time}
+use Rattle.desk.specs.Calls.{step, checks, effect, sliceAfter, told}
 use Rattle.desk.proofs.Desk.weak_sweep.Statement.{statement}
 use Rattle.desk.proofs.Desk.weak_sweep.Tie as tie
 
 -- the sweep that takes a bound, at the weak bound
 returns : tie.Need-returns
-unfolding step checks effect sliceAfter value time
+unfolding step checks effect sliceAfter told
 returns c = rw (c .before .before .before .before .weak .ensures) at (c .before .before .sweep .ensures)
 
 pub weak-sweep-spec : {M : Type 1} → statement M

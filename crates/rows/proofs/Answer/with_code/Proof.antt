@@ -1,20 +1,16 @@
--- `rows::Answer::with_code` meets its contract. Assumes nothing.
+-- Each way out is one branch of `withCode`, by whether the code is 0. Assumes nothing.
 use borrow.Author.Tests.{eq-eqb, ne-eqb}
-use Rattle.rows.specs.Answers.{answered}
+use Rattle.rows.specs.Answers.{withCode}
 use Rattle.rows.proofs.Answer.with_code.Statement.{statement}
 use Rattle.rows.proofs.Answer.with_code.Tie as tie
 
 returns : tie.Need-returns
-unfolding answered
+unfolding withCode
 returns c = simp (eq-eqb _ _ (c .if1 .taken))
 
 returns-2 : tie.Need-returns-2
-unfolding answered
-returns-2 c = simp (ne-eqb _ _ (c .before .if1 .left), eq-eqb _ _ (c .if2 .taken))
-
-returns-3 : tie.Need-returns-3
-unfolding answered
-returns-3 c = simp (ne-eqb _ _ (c .before .if1 .left), ne-eqb _ _ (c .if2 .left))
+unfolding withCode
+returns-2 c = simp (ne-eqb _ _ (c .if1 .left))
 
 pub with-code-spec : {M : Type 1} → statement M
-with-code-spec = tie.close (tie.spec returns returns-2 returns-3)
+with-code-spec = tie.close (tie.spec returns returns-2)
