@@ -1,16 +1,16 @@
 -- The outcome of a call. The code of a call is that of its checks in turn, so it is 0 where all of them hold and nowhere else; its one exit is reached
 -- through the stores where it is 0, and past them where it is not, and `outcome` parts by the same. Assumes nothing.
 use mathlib.Core.Path.{_≡_, refl, sym, ap, _∙_}
-use mathlib.Core.Bool.{Bool, true, cond}
+use mathlib.Core.Bool.{Bool, true, false, cond}
 use mathlib.Core.Logic.{_⊎_, ⊎-elim}
 use mathlib.Core.List.{List}
 use Prim.Native.Nat.{ℕ}
 use lib.Dec.{eqb}
 use borrow.Author.Tests.{eq-eqb, ne-eqb}
 use Rattle.rows.proofs.Laws.{cond-same}
-use Rattle.rows.proofs.Checks.{Pass, Held, held-by, coded, passed, inTurn, in-turn, plain, plain-coded, plainly}
+use Rattle.rows.proofs.Checks.{Pass, Held, held-by, coded, passed, inTurn, in-turn, plain, plain-coded, plainly, Telling, tellingly}
 use Rattle.rows.specs.declared.Answer.{Answer}
-use Rattle.rows.specs.Answers.{Told, Check, decided, withCode}
+use Rattle.rows.specs.Answers.{Told, Check, decided, withCode, telling}
 use Rattle.calls.specs.declared.Deed.the-variants.{Channel, NewThread, AttachInput, AttachOutput, Detach, End, Set, Put, Get, Consume, ConsumeUntil}
 use Rattle.calls.specs.Calls.{Call, by, sweep}
 use Rattle.desk.specs.declared.Desk.{Desk}
@@ -62,6 +62,13 @@ pub answered : (tests : List Check) (tells : Told) → plain tests ≡ true → 
 answered tests tells is {code} {answer} turned made =
     let same : code ≡ decided tests tells .code = turned ∙ in-turn tests tells (plain-coded tests is) in
     record { code-is = same; answer-is = made ∙ ap (λ (n : ℕ). withCode n tells) same ∙ plainly tests tells is }
+
+-- as they are where one refusal does
+pub answered-more : (tests : List Check) (tells : Told) (more : Answer) → coded tests ≡ true → eqb 0 (more .code) ≡ false → Telling more tests
+    → {code : ℕ} {answer : Answer} → code ≡ inTurn 0 tests → answer ≡ telling (withCode code tells) more → Answered tests tells code answer
+answered-more tests tells more codes coded-too is {code} {answer} turned made =
+    let same : code ≡ decided tests tells .code = turned ∙ in-turn tests tells codes in
+    record { code-is = same; answer-is = made ∙ ap (λ (n : ℕ). telling (withCode n tells) more) same ∙ tellingly more tests tells coded-too is }
 
 module _ (d : Desk) {tests : List Check} {tells : Told} (next : Desk) {code : ℕ} {answer : Answer} (a : Answered tests tells code answer) where
   by-code : {flag : Bool} → eqb code 0 ≡ flag → _≡_ {A = Next} (record { answer = answer; desk = cond flag next d }) (outcome d tests tells next)

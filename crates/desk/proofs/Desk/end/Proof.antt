@@ -40,8 +40,9 @@ unfolding step effect ended
 returns c =
     let freeing = c .before .before in
     let accepting = freeing .before .before in
+    let desk = desk-of (accepting .before .before) in
     rw (c .except .ensures, c .before .without .ensures, freeing .freed-connections .ensures, freeing .before .owned-by .ensures)
-    (accepted (desk-of (accepting .before .before)) (ended _ _) (answer-of (accepting .before)) (accepting .if1 .taken))
+    (accepted desk (ended desk _) (answer-of (accepting .before)) (accepting .if1 .taken))
 
 returns-2 : tie.Need-returns-2
 unfolding step

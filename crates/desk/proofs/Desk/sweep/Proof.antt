@@ -10,7 +10,8 @@ use Rattle.words.specs.Places.{foldTo, each}
 use Rattle.words.specs.Words.{has, lowest, count, except}
 use Rattle.words.proofs.Walk.{each-turn, each-done, each-falls}
 use Rattle.rows.specs.declared.Answer.{Answer}
-use Rattle.rows.specs.Answers.{Check, refusal}
+use Rattle.rows.specs.Answers.{tells, answer, Check, withCode, telling}
+use Rattle.rows.proofs.Checks.{inTurn}
 use Rattle.rows.specs.Numbers.{noItem}
 use Rattle.leaving.specs.Leaving.{itemsBelow, sweptItems, sweptConnections}
 use Rattle.leaving.proofs.Left.{emptiedStep, emptied-all, sweptTo, swept-turn, swept-all}
@@ -19,7 +20,7 @@ use Rattle.desk.specs.declared.Desk.{Desk}
 use Rattle.desk.specs.declared.Next.{Next}
 use Rattle.desk.specs.Desk.{connectionsOf, itemsOf, withConnections, withItems}
 use Rattle.desk.specs.Calls.{slice-long, swept}
-use Rattle.desk.proofs.Outcome.{accepted, refused}
+use Rattle.desk.proofs.Outcome.{Answered, answered-more, accepted, refused}
 use Rattle.desk.proofs.Desk.sweep.Statement.{statement}
 use Rattle.desk.proofs.Desk.sweep.Tie as tie
 
@@ -41,7 +42,7 @@ abbrev μ-loop2 : tie.MeasureT-loop2
 
 -- where the code has made its check
 abbrev Checked : Type 0
-Checked = tie.After-check Inv-loop μ-loop Inv-loop2 μ-loop2
+Checked = tie.After-needs Inv-loop μ-loop Inv-loop2 μ-loop2
 
 abbrev start : Checked → tie.Start Inv-loop μ-loop Inv-loop2 μ-loop2
 start c = c .before .before .before .before .before
@@ -58,14 +59,20 @@ items-below-requires c κs = search needs
 count-requires : tie.Need-count-requires Inv-loop μ-loop Inv-loop2 μ-loop2
 count-requires c κs = search needs
 
-cast-check : tie.Need-cast-check Inv-loop μ-loop Inv-loop2 μ-loop2
-cast-check c = search needs
+cast-needs : tie.Need-cast-needs Inv-loop μ-loop Inv-loop2 μ-loop2
+cast-needs c = search needs
 
-check-requires : tie.Need-check-requires Inv-loop μ-loop Inv-loop2 μ-loop2
-check-requires c κs = search needs
+needs-requires : tie.Need-needs-requires Inv-loop μ-loop Inv-loop2 μ-loop2
+needs-requires c κs = search needs
 
 cast-with-code : tie.Need-cast-with-code Inv-loop μ-loop Inv-loop2 μ-loop2
 cast-with-code c = search needs
+
+cast-with-code-2 : tie.Need-cast-with-code-2 Inv-loop μ-loop Inv-loop2 μ-loop2
+cast-with-code-2 c = search needs
+
+telling-requires : tie.Need-telling-requires Inv-loop μ-loop Inv-loop2 μ-loop2
+telling-requires c κs = search needs
 
 with-code-requires : tie.Need-with-code-requires Inv-loop μ-loop Inv-loop2 μ-loop2
 with-code-requires c κs = search needs
@@ -78,14 +85,14 @@ lowest-requires c κs = search needs
 
 loop-holds : tie.Need-loop-holds Inv-loop μ-loop Inv-loop2 μ-loop2
 loop-holds c =
-    let checked = c .before .before .before .before .before .before .before in
+    let checked = c .before .before .before .before .before .before .before .before in
     (c .lowest .ensures, refl, emptied-all (desk-of checked .items) _ (sized checked .1))
 
-cast-t24 : tie.Need-cast-t24 Inv-loop μ-loop Inv-loop2 μ-loop2
-cast-t24 c = search needs
+cast-t26 : tie.Need-cast-t26 Inv-loop μ-loop Inv-loop2 μ-loop2
+cast-t26 c = search needs
 
-mul-t25 : tie.Need-mul-t25 Inv-loop μ-loop Inv-loop2 μ-loop2
-mul-t25 c = search needs
+mul-t27 : tie.Need-mul-t27 Inv-loop μ-loop Inv-loop2 μ-loop2
+mul-t27 c = search needs
 
 element-set-from-self : tie.Need-element-set-from-self Inv-loop μ-loop Inv-loop2 μ-loop2
 element-set-from-self c = search needs
@@ -127,11 +134,11 @@ has-requires c κs = search needs
 swept-row-requires : tie.Need-swept-row-requires Inv-loop μ-loop Inv-loop2 μ-loop2
 swept-row-requires c κs = search needs
 
-cast-t29 : tie.Need-cast-t29 Inv-loop μ-loop Inv-loop2 μ-loop2
-cast-t29 c = search needs
+cast-t31 : tie.Need-cast-t31 Inv-loop μ-loop Inv-loop2 μ-loop2
+cast-t31 c = search needs
 
-mul-t30 : tie.Need-mul-t30 Inv-loop μ-loop Inv-loop2 μ-loop2
-mul-t30 c = search needs
+mul-t32 : tie.Need-mul-t32 Inv-loop μ-loop Inv-loop2 μ-loop2
+mul-t32 c = search needs
 
 element-set-from-self-2 : tie.Need-element-set-from-self-2 Inv-loop μ-loop Inv-loop2 μ-loop2
 element-set-from-self-2 c = search needs
@@ -163,9 +170,9 @@ same-length c = search needs
 abbrev asked : Checked → List Check
 asked c = slice-long (desk-of c) (start c .args .bound) (now (start c .args .slice)) ∷ []
 
-code-of : (c : Checked) → c .check .result ≡ refusal (asked c)
-unfolding refusal
-code-of c = simp (c .check .ensures, c .before .count .ensures, c .before .before .items-below .ensures)
+code-of : (c : Checked) → c .needs .result ≡ inTurn 0 (asked c)
+unfolding inTurn
+code-of c = simp (c .needs .ensures, c .before .count .ensures, c .before .before .items-below .ensures)
 
 -- the answer with the desk that both loops leave, once its word of items is stored too
 swept-whole : (d : Desk) (bound : ℕ) {gone present : ℕ} {emptied left : Desk} {answer : Answer} {whole : Next}
@@ -178,13 +185,27 @@ swept-whole : (d : Desk) (bound : ℕ) {gone present : ℕ} {emptied left : Desk
 unfolding swept
 swept-whole d bound leave items connections present whole = rw (present, connections, items, leave) whole
 
+-- the answer is that of the check: 12 tells the number of items to hand back
+abbrev Telling-now : Type 0
+Telling-now = tie.After-telling Inv-loop μ-loop Inv-loop2 μ-loop2
+
+answer-of : (c : Telling-now) → let checked = c .before .before in let gone = itemsBelow (itemsOf (desk-of checked)) (start checked .args .bound) in
+    Answered (asked checked) (tells (count gone) (start checked .args .bound)) (checked .needs .result) (c .telling .result)
+answer-of c =
+    let checked = c .before .before in
+    let number = checked .before .count .ensures ∙ ap count (checked .before .before .items-below .ensures) in
+    let bound = start checked .args .bound in
+    let gone = itemsBelow (itemsOf (desk-of checked)) bound in
+    answered-more (asked checked) (tells (count gone) bound) (answer 12 (count gone) 0) refl refl (refl, tt) (code-of checked)
+    (c .telling .ensures ∙ ap (λ (a : Answer). telling a (answer 12 (checked .before .count .result) 0)) (c .before .with-code .ensures) ∙ ap (λ (n : ℕ). telling (withCode (checked .needs .result) (tells n bound)) (answer 12 n 0)) number)
+
 returns : tie.Need-returns Inv-loop μ-loop Inv-loop2 μ-loop2
 returns c =
     let raising = c .before in
     let emptying = raising .before .before in
     let accepting = emptying .before .before .before in
     let handed = accepting .before .before .before in
-    let checked = handed .before .before .before in
+    let checked = handed .before .before .before .before in
     let desk = desk-of checked in
     let gone = checked .before .before .items-below .ensures in
     let emptied = emptying .before .loop in
@@ -192,8 +213,8 @@ returns c =
     let items = emptied .inv .1 ∙ ap (withItems desk (desk .present)) (each-done 64 emptiedStep (emptied .rest) (emptying .loop-test .left) (emptied .inv .0) (emptied .inv .2)) in
     let long = ap (λ (d : Desk). length (d .connections)) (emptied .inv .1) ∙ sized checked .0 in
     let connections = raised .inv .1 ∙ ap (withConnections (emptied .self) (emptied .self .attached)) (swept-all (connectionsOf (emptied .self)) _ _ (raised .inv .0) (raising .loop2-test .left) long) in
-    let answer = rw (checked .before .count .ensures, gone) at (handed .before .before .with-code .ensures) in (
-      swept-whole desk _ gone items connections (c .except .ensures) (accepted desk _ _ _ (swept desk _) (code-of checked) answer (accepting .if1 .taken)),
+    (
+      swept-whole desk _ gone items connections (c .except .ensures) (accepted desk (swept desk _) (answer-of (handed .before .before)) (accepting .if1 .taken)),
       rw gone at (handed .hand-back .ensures),
     )
 
@@ -203,10 +224,9 @@ same-length-2 c = search needs
 returns-2 : tie.Need-returns-2 Inv-loop μ-loop Inv-loop2 μ-loop2
 returns-2 c =
     let handed = c .before .before .before in
-    let checked = handed .before .before .before in
+    let checked = handed .before .before .before .before in
     let gone = checked .before .before .items-below .ensures in
-    let answer = rw (checked .before .count .ensures, gone) at (handed .before .before .with-code .ensures) in
-    (refused _ _ _ _ _ (code-of checked) answer (c .if1 .left), rw gone at (handed .hand-back .ensures))
+    (refused (desk-of checked) _ (answer-of (handed .before .before)) (c .if1 .left), rw gone at (handed .hand-back .ensures))
 
 pub sweep-spec : {M : Type 1} → statement M
 sweep-spec =
@@ -218,15 +238,17 @@ sweep-spec =
     μ-loop2
     items-below-requires
     count-requires
-    cast-check
-    check-requires
+    cast-needs
+    needs-requires
     cast-with-code
+    cast-with-code-2
     with-code-requires
+    telling-requires
     hand-back-requires
     lowest-requires
     loop-holds
-    cast-t24
-    mul-t25
+    cast-t26
+    mul-t27
     element-set-from-self
     without-requires
     lowest-requires-2
@@ -238,8 +260,8 @@ sweep-spec =
     element-copy-out-row
     has-requires
     swept-row-requires
-    cast-t29
-    mul-t30
+    cast-t31
+    mul-t32
     element-set-from-self-2
     add-k
     loop2-less
