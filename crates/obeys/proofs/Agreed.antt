@@ -1,9 +1,9 @@
 -- The checks of each call agree with the refusals that the view names. Assumes nothing.
 use Rattle.obeys.proofs.Basis.{_∙_, _≡_, ap, refl, subst, sym, false, true, _⊎_, inl, inr, ⊎-elim, Option·none-ne-some, Option·some-injective, none, List, _<_, _≤_, ℕ, arith, eqb, ltb, length, eq-eqb, leb-false, leb-true}
 use Rattle.obeys.proofs.Basis.{lt-ltb, ltb-false, ltb-true, count, has, lowestFree, count-ext, count-le, free-below, free-lacks, Call, by, sweep, isOpen, Strong, Weak, AttachInput, AttachOutput, Channel, Consume}
-use Rattle.obeys.proofs.Basis.{ConsumeUntil, Detach, End, Get, NewThread, Put, Set, State, Which, Earliest, Latest, Named, answered, inward, never, outward, Found, At, Nothing, bool-cases, true-not-false, placeOf, state}
+use Rattle.obeys.proofs.Basis.{ConsumeUntil, Detach, End, Get, NewThread, Put, Set, State, Which, Earliest, Latest, Named, inward, never, outward, Found, At, Nothing, bool-cases, true-not-false, placeOf, state}
 use Rattle.obeys.proofs.Basis.{connectionAt, inUse, isConnection, isInput, isLiving, used-below, isBelow, itemsBelow, channel-exists, checks, connection-goes, connection-owned, isFound, item-fits, item-found, item-open}
-use Rattle.obeys.proofs.Basis.{place-free, slice-long, soughtBy, thread-lives, time, time-visible, timestamp-absent, timestamp-given, value, which-given, connectionsOf, itemsOf, threadsOf, strongBound, visibleTime}
+use Rattle.obeys.proofs.Basis.{place-free, slice-long, soughtBy, thread-lives, time-visible, timestamp-absent, timestamp-given, which-given, connectionsOf, itemsOf, threadsOf, strongBound, visibleTime}
 use Rattle.obeys.proofs.Basis.{weakBound, Desk, Connection, FreeChannel, FreeConnection, FreeThread, Listed, Lowest, desk-full, inputFrom, named-never, no-channel, no-input, no-output, no-thread, no-timestamp, not-its-own}
 use Rattle.obeys.proofs.Basis.{not-open, nothing-unseen, outputTo, rule, slice-short, stateOn, table-full, taken, too-early, unused, DeskInOrder, viewOf}
 use Rattle.rules.proofs.OneList.{listed-one}
@@ -47,9 +47,9 @@ module _ {w places : ℕ} {Free : ℕ → Type 0} (f : Frees w places Free) wher
     λ lower below. f .used lower (in-use w lower places (omega (arith, ltb-true (lowestFree w) places free)) (free-below w below)),
   )
 
-  agree-free : {v t : ℕ} → Matches v t (place-free (lowestFree w) places) (table-full places Free)
+  agree-free : Matches (place-free (lowestFree w) places) (table-full places Free)
   agree-free =
-      plain _ 9 _ refl refl
+      plain _ 9 _
       (λ e n below. f .used n (in-use w n places below (free-below w (omega (arith, ltb-false (lowestFree w) places e)))))
       (λ e case. case (lowestFree w) (ltb-true (lowestFree w) places e) (lowest-is e))
 
@@ -75,93 +75,91 @@ module _ (d : Desk) (o : DeskInOrder d) where
   not-found (At place item) e = absurd (true-not-false {b = true} refl e)
   not-found Nothing e = refl
 
-  module _ {v t : ℕ} where
-    pub agree-thread : (thread : ℕ) → Matches v t (thread-lives d thread) (no-thread (viewOf d) thread)
-    agree-thread thread = plain _ 1 _ refl refl (dead-view d thread) (λ e gone. Option·none-ne-some _ (sym gone ∙ lives-view d thread e))
+  pub agree-thread : (thread : ℕ) → Matches (thread-lives d thread) (no-thread (viewOf d) thread)
+  agree-thread thread = plain _ 1 _ (dead-view d thread) (λ e gone. Option·none-ne-some _ (sym gone ∙ lives-view d thread e))
 
-    agree-channel : (channel : ℕ) → Matches v t (channel-exists d channel) (no-channel (viewOf d) channel)
-    unfolding viewOf
-    agree-channel channel = plain _ 2 _ refl refl (λ e. e) (λ e gone. true-not-false e gone)
+  agree-channel : (channel : ℕ) → Matches (channel-exists d channel) (no-channel (viewOf d) channel)
+  unfolding viewOf
+  agree-channel channel = plain _ 2 _ (λ e. e) (λ e gone. true-not-false e gone)
 
-    agree-owned : (thread connection : ℕ) → Matches v t (connection-owned d thread connection) (not-its-own (viewOf d) thread connection)
-    agree-owned thread connection =
-        plain _ 3 _ refl refl (λ e own. true-not-false (view-owned d connection thread own) e) (λ e case. case (owned-view d connection thread e))
+  agree-owned : (thread connection : ℕ) → Matches (connection-owned d thread connection) (not-its-own (viewOf d) thread connection)
+  agree-owned thread connection =
+      plain _ 3 _ (λ e own. true-not-false (view-owned d connection thread own) e) (λ e case. case (owned-view d connection thread e))
 
-    agree-output : (connection : ℕ) → isConnection (connectionsOf d) connection ≡ true → Matches v t (connection-goes d connection outward) (no-output (viewOf d) connection)
-    agree-output connection used =
-        plain _ 4 _ refl refl
-        (λ e. ⊎-elim (λ reads. ap outputTo (input-view d connection (used-reads d connection used reads))) (λ writes. absurd (true-not-false writes e)) (other-way connection used))
-        (λ e case. Option·none-ne-some _ (sym case ∙ ap outputTo (writes-view d connection used e)))
+  agree-output : (connection : ℕ) → isConnection (connectionsOf d) connection ≡ true → Matches (connection-goes d connection outward) (no-output (viewOf d) connection)
+  agree-output connection used =
+      plain _ 4 _
+      (λ e. ⊎-elim (λ reads. ap outputTo (input-view d connection (used-reads d connection used reads))) (λ writes. absurd (true-not-false writes e)) (other-way connection used))
+      (λ e case. Option·none-ne-some _ (sym case ∙ ap outputTo (writes-view d connection used e)))
 
-    pub agree-input : (connection : ℕ) → isConnection (connectionsOf d) connection ≡ true → Matches v t (connection-goes d connection inward) (no-input (viewOf d) connection)
-    agree-input connection used =
-        plain _ 4 _ refl refl
-        (λ e. ⊎-elim (λ reads. absurd (true-not-false reads e)) (λ writes. ap inputFrom (writes-view d connection used writes)) (other-way connection used))
-        (λ e case. Option·none-ne-some _ (sym case ∙ ap inputFrom (input-view d connection (used-reads d connection used e))))
+  pub agree-input : (connection : ℕ) → isConnection (connectionsOf d) connection ≡ true → Matches (connection-goes d connection inward) (no-input (viewOf d) connection)
+  agree-input connection used =
+      plain _ 4 _
+      (λ e. ⊎-elim (λ reads. absurd (true-not-false reads e)) (λ writes. ap inputFrom (writes-view d connection used writes)) (other-way connection used))
+      (λ e case. Option·none-ne-some _ (sym case ∙ ap inputFrom (input-view d connection (used-reads d connection used e))))
 
-    pub agree-timestamp : (timestamp : ℕ) → Matches v t (timestamp-given timestamp) (no-timestamp timestamp)
-    agree-timestamp timestamp = plain _ 5 _ refl refl (ltb-false timestamp never) (λ e past. omega (arith, ltb-true timestamp never e))
+  pub agree-timestamp : (timestamp : ℕ) → Matches (timestamp-given timestamp) (no-timestamp timestamp)
+  agree-timestamp timestamp = plain _ 5 _ (ltb-false timestamp never) (λ e past. omega (arith, ltb-true timestamp never e))
 
-    agree-which : (which : Which) → Matches v t (which-given which) (named-never which)
-    agree-which Earliest = plain true 5 _ refl refl (λ e. absurd (true-not-false {b = true} refl e)) (λ e none. none)
-    agree-which Latest = plain true 5 _ refl refl (λ e. absurd (true-not-false {b = true} refl e)) (λ e none. none)
-    agree-which (Named timestamp) = agree-timestamp timestamp
+  agree-which : (which : Which) → Matches (which-given which) (named-never which)
+  agree-which Earliest = plain true 5 _ (λ e. absurd (true-not-false {b = true} refl e)) (λ e none. none)
+  agree-which Latest = plain true 5 _ (λ e. absurd (true-not-false {b = true} refl e)) (λ e none. none)
+  agree-which (Named timestamp) = agree-timestamp timestamp
 
-    agree-visible : (thread when : ℕ) → isLiving (threadsOf d) thread ≡ true → Matches v t (time-visible d thread when) (too-early (viewOf d) thread when)
-    agree-visible thread when lives =
-        plain _ 6 _ refl refl
-        (λ e. (visibleTime d thread, visible d o thread lives, leb-false (visibleTime d thread) when e))
-        (λ e (bound, is, below). omega (arith, leb-true (visibleTime d thread) when e, smallest-one is (visible d o thread lives)))
+  agree-visible : (thread time : ℕ) → isLiving (threadsOf d) thread ≡ true → Matches (time-visible d thread time) (too-early (viewOf d) thread time)
+  agree-visible thread time lives =
+      plain _ 6 _
+      (λ e. (visibleTime d thread, visible d o thread lives, leb-false (visibleTime d thread) time e))
+      (λ e (bound, is, below). omega (arith, leb-true (visibleTime d thread) time e, smallest-one is (visible d o thread lives)))
 
-    agree-absent : (connection timestamp : ℕ) → isConnection (connectionsOf d) connection ≡ true
-        → eqb (connectionAt (connectionsOf d) connection .direction) outward ≡ true
-        → Matches v t (timestamp-absent d connection timestamp) (taken (viewOf d) connection timestamp)
-    agree-absent connection timestamp used goes =
-        let channel : ℕ = connectionAt (connectionsOf d) connection .channel in
-        let writes = ap outputTo (writes-view d connection used goes) in
-        let place : ℕ = placeOf (itemsOf d) channel timestamp in
-        plain _ 7 _ refl refl
-        (λ e. (channel, _, writes, item-view d o (holds-of d o place channel timestamp (place-found (itemsOf d) channel timestamp (leb-false 64 place e)))))
-        (λ e (to, ticket, into, there).
-        let same : channel ≡ to = Option·some-injective channel to (sym writes ∙ into) in
-        Option·none-ne-some ticket (sym (no-item-view d o channel timestamp (leb-true 64 place e)) ∙ rw same there))
+  agree-absent : (connection timestamp : ℕ) → isConnection (connectionsOf d) connection ≡ true
+      → eqb (connectionAt (connectionsOf d) connection .direction) outward ≡ true
+      → Matches (timestamp-absent d connection timestamp) (taken (viewOf d) connection timestamp)
+  agree-absent connection timestamp used goes =
+      let channel : ℕ = connectionAt (connectionsOf d) connection .channel in
+      let writes = ap outputTo (writes-view d connection used goes) in
+      let place : ℕ = placeOf (itemsOf d) channel timestamp in
+      plain _ 7 _
+      (λ e. (channel, _, writes, item-view d o (holds-of d o place channel timestamp (place-found (itemsOf d) channel timestamp (leb-false 64 place e)))))
+      (λ e (to, ticket, into, there).
+      let same : channel ≡ to = Option·some-injective channel to (sym writes ∙ into) in
+      Option·none-ne-some ticket (sym (no-item-view d o channel timestamp (leb-true 64 place e)) ∙ rw same there))
 
-    agree-fits : Matches v t (item-fits d) (desk-full (viewOf d))
-    unfolding count
-    agree-fits =
-        plain _ 8 _ refl refl
-        (λ e. let many : 64 ≤ count (d .present) = ltb-false (count (d .present)) 64 e in
-        let most : count (d .present) ≤ 64 = count-le (has (d .present)) 64 in
-        (below d o never .items, listed d o never, omega (arith, below d o never .counts, counted)))
-        (λ e (items, those, full). let same : length items ≡ length (below d o never .items) = ap length (listed-one those (listed d o never)) in
-        omega (arith, below d o never .counts, counted, ltb-true (count (d .present)) 64 e))
+  agree-fits : Matches (item-fits d) (desk-full (viewOf d))
+  unfolding count
+  agree-fits =
+      plain _ 8 _
+      (λ e. let many : 64 ≤ count (d .present) = ltb-false (count (d .present)) 64 e in
+      let most : count (d .present) ≤ 64 = count-le (has (d .present)) 64 in
+      (below d o never .items, listed d o never, omega (arith, below d o never .counts, counted)))
+      (λ e (items, those, full). let same : length items ≡ length (below d o never .items) = ap length (listed-one those (listed d o never)) in
+      omega (arith, below d o never .counts, counted, ltb-true (count (d .present)) 64 e))
 
-    agree-found : (connection : ℕ) (which : Which) → isInput (connectionsOf d) connection ≡ true
-        → Matches v t (item-found d connection which) (nothing-unseen (viewOf d) connection which)
-    agree-found connection which reads =
-        plain _ 10 _ refl refl
-        (λ e. takes-none d o connection reads which (not-found (soughtBy d connection which) e))
-        (λ e case. go (soughtBy d connection which) refl e case)
-      where
-        go : (found : Found) → soughtBy d connection which ≡ found → isFound found ≡ true
-            → ((timestamp : ℕ) → Rattle.rules.specs.Rules.TakesUnseen (viewOf d) connection which timestamp → ⊥) → ⊥
-        go (At place item) e found case = case (item .timestamp) (takes d o connection reads which place item e)
-        go Nothing e found case = true-not-false found refl
+  agree-found : (connection : ℕ) (which : Which) → isInput (connectionsOf d) connection ≡ true
+      → Matches (item-found d connection which) (nothing-unseen (viewOf d) connection which)
+  agree-found connection which reads =
+      plain _ 10 _
+      (λ e. takes-none d o connection reads which (not-found (soughtBy d connection which) e))
+      (λ e case. go (soughtBy d connection which) refl e case)
+    where
+      go : (found : Found) → soughtBy d connection which ≡ found → isFound found ≡ true
+          → ((timestamp : ℕ) → Rattle.rules.specs.Rules.TakesUnseen (viewOf d) connection which timestamp → ⊥) → ⊥
+      go (At place item) e found case = case (item .timestamp) (takes d o connection reads which place item e)
+      go Nothing e found case = true-not-false found refl
 
-    agree-open : (connection timestamp : ℕ) → isInput (connectionsOf d) connection ≡ true
-        → Matches v t (item-open d connection timestamp) (not-open (viewOf d) connection timestamp)
-    agree-open connection timestamp reads =
-        let s : State = state (itemsOf d) (connectionAt (connectionsOf d) connection) timestamp in
-        let on : stateOn (viewOf d .connection connection) timestamp ≡ s = ap (λ (c : Connection). stateOn c timestamp) (input-view d connection reads) in
-        plain _ 11 _ refl refl
-        (λ e is. true-not-false (ap isOpen (sym on ∙ is)) e)
-        (λ e case. case (on ∙ is-open s e))
+  agree-open : (connection timestamp : ℕ) → isInput (connectionsOf d) connection ≡ true
+      → Matches (item-open d connection timestamp) (not-open (viewOf d) connection timestamp)
+  agree-open connection timestamp reads =
+      let s : State = state (itemsOf d) (connectionAt (connectionsOf d) connection) timestamp in
+      let on : stateOn (viewOf d .connection connection) timestamp ≡ s = ap (λ (c : Connection). stateOn c timestamp) (input-view d connection reads) in
+      plain _ 11 _
+      (λ e is. true-not-false (ap isOpen (sym on ∙ is)) e)
+      (λ e case. case (on ∙ is-open s e))
 
   -- 12 answers the number
-  agree-slice : (Bound : ℕ → Type 0) (bound when : ℕ) (slice : List ℕ) → Bound bound → ((b : ℕ) → Bound b → b ≡ bound)
-      → Matches (count (itemsBelow (itemsOf d) bound)) when (slice-long d bound slice) (slice-short (viewOf d) Bound slice)
-  unfolding answered
-  agree-slice Bound bound when slice is one = record {
+  agree-slice : (Bound : ℕ → Type 0) (bound : ℕ) (slice : List ℕ) → Bound bound → ((b : ℕ) → Bound b → b ≡ bound)
+      → Matches (slice-long d bound slice) (slice-short (viewOf d) Bound slice)
+  agree-slice Bound bound slice is one = record {
     code = refl;
     fails = λ e. (
       bound,
@@ -172,23 +170,23 @@ module _ (d : Desk) (o : DeskInOrder d) where
       sym (below d o bound .counts),
       refl,
     );
-    holds = λ e v t (b, items, is-b, those, short, counts, zero).
+    holds = λ e value told (b, items, is-b, those, short, counts, zero).
         let same : length items ≡ length (below d o bound .items) = ap length (listed-one (subst (λ (x : ℕ). Listed (viewOf d) x items) (one b is-b) those) (listed d o bound)) in
         omega (arith, below d o bound .counts, leb-true (count (itemsBelow (itemsOf d) bound)) (length slice) e);
   }
 
-  pub agree : (call : Call) → Agree (value d call) (time d call) (checks d call) (rule (viewOf d) call .refusals)
-  unfolding checks value time
+  pub agree : (call : Call) → Agree (checks d call) (rule (viewOf d) call .refusals)
+  unfolding checks
   agree (by thread Channel) = check (agree-thread thread) (λ _. check (agree-free (channels-free d)) (λ _. tt))
-  agree (by thread (NewThread when)) =
-      check (agree-thread thread) (λ lives. check (agree-visible thread when lives) (λ _. check (agree-free (threads-free d)) (λ _. tt)))
+  agree (by thread (NewThread time)) =
+      check (agree-thread thread) (λ lives. check (agree-visible thread time lives) (λ _. check (agree-free (threads-free d)) (λ _. tt)))
   agree (by thread (AttachInput channel)) =
       check (agree-thread thread) (λ _. check (agree-channel channel) (λ _. check (agree-free (connections-free d)) (λ _. tt)))
   agree (by thread (AttachOutput channel)) =
       check (agree-thread thread) (λ _. check (agree-channel channel) (λ _. check (agree-free (connections-free d)) (λ _. tt)))
   agree (by thread (Detach connection)) = check (agree-thread thread) (λ _. check (agree-owned thread connection) (λ _. tt))
   agree (by thread End) = check (agree-thread thread) (λ _. tt)
-  agree (by thread (Set when)) = check (agree-thread thread) (λ lives. check (agree-visible thread when lives) (λ _. tt))
+  agree (by thread (Set time)) = check (agree-thread thread) (λ lives. check (agree-visible thread time lives) (λ _. tt))
   agree (by thread (Put connection timestamp ticket)) =
       check (agree-thread thread) (λ lives. check (agree-owned thread connection) (λ owned.
       let used = owned-used d connection thread owned in
@@ -205,5 +203,5 @@ module _ (d : Desk) (o : DeskInOrder d) where
   agree (by thread (ConsumeUntil connection timestamp)) =
       check (agree-thread thread) (λ _. check (agree-owned thread connection) (λ owned.
       check (agree-input connection (owned-used d connection thread owned)) (λ _. check (agree-timestamp timestamp) (λ _. tt))))
-  agree (sweep Weak slice) = check (agree-slice _ (weakBound d) _ slice (weak d o) (λ b is. smallest-one is (weak d o))) (λ _. tt)
-  agree (sweep Strong slice) = check (agree-slice _ (strongBound d) _ slice (strong d o) (λ b is. smallest-one is (strong d o))) (λ _. tt)
+  agree (sweep Weak slice) = check (agree-slice _ (weakBound d) slice (weak d o) (λ b is. smallest-one is (weak d o))) (λ _. tt)
+  agree (sweep Strong slice) = check (agree-slice _ (strongBound d) slice (strong d o) (λ b is. smallest-one is (strong d o))) (λ _. tt)

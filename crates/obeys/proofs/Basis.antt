@@ -27,8 +27,8 @@ pub use Rattle.calls.specs.declared.State.{State}
 pub use Rattle.calls.specs.declared.State.the-variants.{Absent, Consumed, Open, Unseen}
 pub use Rattle.calls.specs.declared.Which.{Which}
 pub use Rattle.calls.specs.declared.Which.the-variants.{Earliest, Latest, Named}
-unfoldable pub use Rattle.rows.specs.Answers.{answered, refusal}
-pub use Rattle.rows.specs.Answers.{Check, answer, needs}
+unfoldable pub use Rattle.rows.specs.Answers.{decided}
+pub use Rattle.rows.specs.Answers.{Told, tells, Check, accepted, answer, needs, refusal}
 unfoldable pub use Rattle.rows.specs.Choices.{before}
 pub use Rattle.rows.specs.Choices.{preferred, takenBefore, ticketOf}
 unfoldable pub use Rattle.rows.specs.Facts.{cleared, consumedByName, got, raised}
@@ -41,7 +41,8 @@ pub use Rattle.rows.specs.declared.Found.{Found}
 pub use Rattle.rows.specs.declared.Found.the-variants.{At, Nothing}
 pub use Rattle.rows.specs.declared.Item.{Item}
 pub use Rattle.rows.specs.declared.Thread.{Thread}
-pub use Rattle.rows.proofs.Laws.{Codes, Pass, and-both, and-left, and-right, answered-none, answered-zero, bool-cases, pass-refusal, passed, state-present, true-not-false}
+pub use Rattle.rows.proofs.Laws.{and-both, and-left, and-right, bool-cases, state-present, true-not-false}
+pub use Rattle.rows.proofs.Checks.{Pass, coded, passed, pass-decided}
 unfoldable pub use Rattle.tables.specs.Search.{chosen, sought}
 pub use Rattle.tables.specs.Search.{isWanted}
 unfoldable pub use Rattle.tables.specs.Seen.{isItem, isOpenAt, isPendingAt, isUnseenAt, lies, placeOf, state}
@@ -53,13 +54,14 @@ pub use Rattle.tables.proofs.Used.{used-below}
 unfoldable pub use Rattle.leaving.specs.Leaving.{firstOf, freedConnections, handedBack, ticketsInLine, isBelow, itemsBelow, ownedBy, sweptConnections, sweptItems}
 pub use Rattle.leaving.specs.Leaving.{rowsOf, sweptConnection}
 pub use Rattle.leaving.proofs.Rows.{getD-rowsOf, length-rowsOf}
-unfoldable pub use Rattle.desk.specs.Calls.{adopted, after, attachedAs, checks, effect, ended, outcome, sliceAfter, step, stored, swept, time, value}
+unfoldable pub use Rattle.desk.specs.Calls.{adopted, after, attachedAs, checks, effect, ended, outcome, sliceAfter, step, stored, swept, told}
 pub use Rattle.desk.specs.Calls.{boundOf, channel-exists, connected, connection-goes, connection-owned, freeChannel, freeConnection, freeItem, freeThread, isFound, item-fits, item-found, item-open, becomesOpen, place-free, slice-long}
-pub use Rattle.desk.specs.Calls.{soughtBy, thread-lives, time-visible, timestamp-absent, timestamp-given, timestampOf, which-given, withConnection}
+pub use Rattle.desk.specs.Calls.{soughtBy, thread-lives, time-visible, timestamp-absent, timestamp-given, foundTold, which-given, withConnection}
 unfoldable pub use Rattle.desk.specs.Desk.{fresh}
 pub use Rattle.desk.specs.Desk.{connectionsOf, itemsOf, threadsOf, withChannels, withConnections, withItems, withThreads}
 unfoldable pub use Rattle.desk.specs.Times.{strongBound, visibleTime, weakBound}
 pub use Rattle.desk.specs.declared.Desk.{Desk}
+pub use Rattle.desk.proofs.Outcome.{Passed, codes, passing}
 pub use Rattle.desk.proofs.Owned.{fewer-free, owned-below, used-inside}
 pub use Rattle.rules.specs.Rules.{Before, BoundOf, Connection, Does, FreeChannel, FreeConnection, FreeThread, InLine, IsPresent, IsTime, KeepTime, Listed, Lowest, NoneOf, Outcome, Refusal, Refuses, Says, Smallest, StrongBound}
 pub use Rattle.rules.specs.Rules.{TakesUnseen, View, VisibleTime, WeakBound, _∈_, askedOf, at, consumedBelow, desk-full, done, firstSeen, freedFrom, freshView, input, inputFrom, named-never, no-channel, no-input, no-output}

@@ -1,8 +1,8 @@
 -- Each accepted call does what the view says, and so does each call. Assumes nothing.
 use Rattle.obeys.proofs.Basis.{_∙_, _≡_, ap, refl, sym, false, true, some, List, [], _∷_, _<_, suc, ℕ, arith, eqb, leb, ltb, length, eqb-true, leb-true, ltb-true, count, with-same, without-same, Call, Passable, by, sliceOf}
-use Rattle.obeys.proofs.Basis.{sweep, isOpen, isPending, AttachInput, AttachOutput, Channel, Consume, ConsumeUntil, Detach, End, Get, NewThread, Put, Set, Consumed, Open, Which, refusal, ticketOf, inward, stateOf, Row}
-use Rattle.obeys.proofs.Basis.{Found, At, Nothing, Item, Pass, and-left, and-right, bool-cases, true-not-false, isUnseenAt, lies, placeOf, state, stateAt, connectionAt, isConnection, itemAt, owns, handedBack, itemsBelow}
-use Rattle.obeys.proofs.Basis.{adopted, attachedAs, boundOf, checks, effect, freeChannel, freeConnection, freeThread, isFound, becomesOpen, slice-long, sliceAfter, soughtBy, time, timestampOf, value, connectionsOf, itemsOf}
+use Rattle.obeys.proofs.Basis.{sweep, isOpen, isPending, AttachInput, AttachOutput, Channel, Consume, ConsumeUntil, Detach, End, Get, NewThread, Put, Set, Consumed, Open, Which, decided, Told, foundTold, inward, stateOf, Row}
+use Rattle.obeys.proofs.Basis.{Found, At, Nothing, Item, Passed, and-left, and-right, bool-cases, true-not-false, isUnseenAt, lies, placeOf, state, stateAt, connectionAt, isConnection, itemAt, owns, handedBack, itemsBelow}
+use Rattle.obeys.proofs.Basis.{adopted, attachedAs, boundOf, checks, effect, freeChannel, freeConnection, freeThread, isFound, becomesOpen, slice-long, sliceAfter, soughtBy, told, connectionsOf, itemsOf}
 use Rattle.obeys.proofs.Basis.{visibleTime, Desk, fewer-free, owned-below, used-inside, BoundOf, Connection, View, consumedBelow, done, inputFrom, outputTo, rule, seenAs, sweepRow, unused, DeskDoes, DeskInOrder, connectionOf}
 use Rattle.obeys.proofs.Basis.{viewOf}
 use native.Mathlib.Numerals.{add-one}
@@ -47,7 +47,7 @@ module _ (d : Desk) (o : DeskInOrder d) where
   got-accepts : (thread connection : ℕ) (which : Which) → owns (connectionsOf d) thread connection ≡ true
       → eqb (connectionAt (connectionsOf d) connection .direction) inward ≡ true
       → (found : Found) → soughtBy d connection which ≡ found → isFound found ≡ true
-      → rule (viewOf d) (by thread (Get connection which)) .Accepts (done (ticketOf found) (timestampOf found) (viewOf (becomesOpen d connection found)) [])
+      → rule (viewOf d) (by thread (Get connection which)) .Accepts (done (foundTold found .value) (foundTold found .time) (viewOf (becomesOpen d connection found)) [])
   unfolding isUnseenAt
   got-accepts thread connection which owned goes (At place item) e found =
       let row : Row = connectionAt (connectionsOf d) connection in
@@ -91,53 +91,53 @@ module _ (d : Desk) (o : DeskInOrder d) where
       let those = below d o bound in
       (bound, those .items, is, listed d o bound, rw (those .counts, those .hands, long, view-swept d o bound o′))
 
-  accepts : (call : Call) → Passable call → Pass (checks d call)
-      → rule (viewOf d) call .Accepts (done (value d call) (time d call) (viewOf (effect d call)) (sliceAfter d call))
-  unfolding checks value time effect sliceAfter viewOf adopted
-  accepts (by thread Channel) fits p = (freeChannel d, lowest-free (channels-free d) (p .1 .0), quietly (view-channel d o (ltb-true (freeChannel d) 8 (p .1 .0))))
-  accepts (by thread (NewThread when)) fits p =
-      let inside : freeThread d < 16 = ltb-true (freeThread d) 16 (p .1 .1 .0) in
+  accepts : (call : Call) → Passable call → Passed d call
+      → rule (viewOf d) call .Accepts (done (told d call .value) (told d call .time) (viewOf (effect d call)) (sliceAfter d call))
+  unfolding checks told effect sliceAfter viewOf adopted
+  accepts (by thread Channel) fits p = (freeChannel d, lowest-free (channels-free d) (p .held 9), quietly (view-channel d o (ltb-true (freeChannel d) 8 (p .held 9))))
+  accepts (by thread (NewThread time)) fits p =
+      let inside : freeThread d < 16 = ltb-true (freeThread d) 16 (p .held 9) in
       let here = with-same (d .living) {p = freeThread d} (omega arith) in
-      (freeThread d, lowest-free (threads-free d) (p .1 .1 .0), quietly (view-thread d o (freeThread d) _ (some when) (with-elsewhere (d .living) (freeThread d)) inside (rw here)))
+      (freeThread d, lowest-free (threads-free d) (p .held 9), quietly (view-thread d o (freeThread d) _ (some time) (with-elsewhere (d .living) (freeThread d)) inside (rw here)))
   accepts (by thread (AttachInput channel)) fits p = (
     freeConnection d,
     visibleTime d thread,
-    lowest-free (connections-free d) (p .1 .1 .0),
-    visible d o thread (p .0),
-    quietly (attached-view (p .1 .1 .0) _ _ (row-connected (itemsOf d) thread channel (visibleTime d thread))),
+    lowest-free (connections-free d) (p .held 9),
+    visible d o thread (p .held 1),
+    quietly (attached-view (p .held 9) _ _ (row-connected (itemsOf d) thread channel (visibleTime d thread))),
   )
   accepts (by thread (AttachOutput channel)) fits p =
-      (freeConnection d, lowest-free (connections-free d) (p .1 .1 .0), quietly (attached-view (p .1 .1 .0) _ _ refl))
+      (freeConnection d, lowest-free (connections-free d) (p .held 9), quietly (attached-view (p .held 9) _ _ refl))
   accepts (by thread (Detach connection)) fits p =
-      quietly (view-connection d o connection _ unused (without-elsewhere (d .attached) connection) (owned-below d thread connection (p .1 .0)) (rw (without-same (d .attached) connection)))
-  accepts (by thread End) fits p = quietly (view-ended d o thread (used-inside (d .living) (p .0)))
-  accepts (by thread (Set when)) fits p =
-      quietly (view-thread d o thread _ (some when) (same-elsewhere (d .living) thread) (used-inside (d .living) (p .0)) (rw (in-use-has (d .living) thread 16 (p .0))))
+      quietly (view-connection d o connection _ unused (without-elsewhere (d .attached) connection) (owned-below d thread connection (p .held 3)) (rw (without-same (d .attached) connection)))
+  accepts (by thread End) fits p = quietly (view-ended d o thread (used-inside (d .living) (p .held 1)))
+  accepts (by thread (Set time)) fits p =
+      quietly (view-thread d o thread _ (some time) (same-elsewhere (d .living) thread) (used-inside (d .living) (p .held 1)) (rw (in-use-has (d .living) thread 16 (p .held 1))))
   accepts (by thread (Put connection timestamp ticket)) fits p =
       let item : Item = record { channel = connectionAt (connectionsOf d) connection .channel; timestamp = timestamp; ticket = ticket } in (
         connectionAt (connectionsOf d) connection .channel,
-        ap outputTo (writes-view d connection (owned-used d connection thread (p .1 .0)) (p .1 .1 .0)),
+        ap outputTo (writes-view d connection (owned-used d connection thread (p .held 3)) (p .held 4)),
         quietly (view-stored d o item (in-order-effect d o (by thread (Put connection timestamp ticket)) fits p)
-            (fewer-free (d .present) (ltb-true (count (d .present)) 64 (p .1 .1 .1 .1 .1 .1 .0))) (leb-true 64 _ (p .1 .1 .1 .1 .1 .0))),
+            (fewer-free (d .present) (ltb-true (count (d .present)) 64 (p .held 8))) (leb-true 64 _ (p .held 7))),
       )
-  accepts (by thread (Get connection which)) fits p = got-accepts thread connection which (p .1 .0) (p .1 .1 .0) (soughtBy d connection which) refl (p .1 .1 .1 .1 .0)
-  accepts (by thread (Consume connection timestamp)) fits p = quietly (consumed-view thread connection timestamp (p .1 .0) (p .1 .1 .0) (p .1 .1 .1 .1 .0))
+  accepts (by thread (Get connection which)) fits p = got-accepts thread connection which (p .held 3) (p .held 4) (soughtBy d connection which) refl (p .held 10)
+  accepts (by thread (Consume connection timestamp)) fits p = quietly (consumed-view thread connection timestamp (p .held 3) (p .held 4) (p .held 11))
   accepts (by thread (ConsumeUntil connection timestamp)) fits p =
-      quietly (by-row connection (owned-used d connection thread (p .1 .0)) _ (consumedBelow (suc timestamp))
-      (rw (add-one timestamp) (row-raised (itemsOf d) (connectionAt (connectionsOf d) connection) (suc timestamp) (eqb-true _ inward (p .1 .1 .0)))))
-  accepts (sweep bound slice) fits p = sweeps (BoundOf (viewOf d) bound) (boundOf d bound) slice (bound-is d o bound) (in-order-effect d o (sweep bound slice) fits p) (p .0)
+      quietly (by-row connection (owned-used d connection thread (p .held 3)) _ (consumedBelow (suc timestamp))
+      (rw (add-one timestamp) (row-raised (itemsOf d) (connectionAt (connectionsOf d) connection) (suc timestamp) (eqb-true _ inward (p .held 4)))))
+  accepts (sweep bound slice) fits p = sweeps (BoundOf (viewOf d) bound) (boundOf d bound) slice (bound-is d o bound) (in-order-effect d o (sweep bound slice) fits p) (p .held 12)
 
   -- ---- a refused call leaves the slice
 
-  short-stays : (bound : ℕ) (slice : List ℕ) → eqb (refusal (slice-long d bound slice ∷ [])) 0 ≡ false → handedBack (d .items) (itemsBelow (itemsOf d) bound) slice ≡ slice
-  unfolding refusal handedBack
-  short-stays bound slice e =
+  short-stays : (bound : ℕ) (slice : List ℕ) (tells : Told) → eqb (decided (slice-long d bound slice ∷ []) tells .code) 0 ≡ false → handedBack (d .items) (itemsBelow (itemsOf d) bound) slice ≡ slice
+  unfolding decided handedBack
+  short-stays bound slice tells e =
       bool-cases (leb (count (itemsBelow (itemsOf d) bound)) (length slice)) (λ q. absurd (true-not-false {b = true} refl (rw q at e))) (λ q. rw q)
 
-  stays : (call : Call) → eqb (refusal (checks d call)) 0 ≡ false → sliceAfter d call ≡ sliceOf call
+  stays : (call : Call) → eqb (decided (checks d call) (told d call) .code) 0 ≡ false → sliceAfter d call ≡ sliceOf call
   unfolding checks sliceAfter
   stays (by thread deed) e = refl
-  stays (sweep bound slice) e = short-stays (boundOf d bound) slice e
+  stays (sweep bound slice) e = short-stays (boundOf d bound) slice (told d (sweep bound slice)) e
 
 pub desk-does : DeskDoes
 desk-does d r call fits =

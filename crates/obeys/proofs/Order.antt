@@ -4,7 +4,7 @@ pub mod Rows
 pub mod Desks
 use Rattle.obeys.proofs.Basis.{_≡_, ap, refl, false, false≢true, true, inl, inr, _+_, _<_, _≤_, suc, zero, ℕ, decLt, ℕ-discrete, arith, getD, length-replicate, replicate, eqb-true, leb-true, ltb-true, has, with, has-from}
 use Rattle.obeys.proofs.Basis.{has-none, with-same, without-same, Call, Passable, by, sweep, isPending, Bound, Strong, Weak, AttachInput, AttachOutput, Channel, Consume, ConsumeUntil, Detach, End, Get, NewThread, Put, Set}
-use Rattle.obeys.proofs.Basis.{Which, inward, never, noConnection, noItem, noThread, outward, Row, Found, At, Nothing, Pass, and-left, and-right, true-not-false, isUnseenAt, lies, state, stateAt, connectionAt}
+use Rattle.obeys.proofs.Basis.{Which, inward, never, noConnection, noItem, noThread, outward, Row, Found, At, Nothing, Passed, and-left, and-right, true-not-false, isUnseenAt, lies, state, stateAt, connectionAt}
 use Rattle.obeys.proofs.Basis.{connectionPlaces, isConnection, owns, threadPlaces, adopted, attachedAs, boundOf, checks, effect, freeChannel, freeConnection, freeThread, isFound, becomesOpen, soughtBy, withConnection}
 use Rattle.obeys.proofs.Basis.{connectionsOf, fresh, itemsOf, visibleTime, Desk, fewer-free, owned-below, used-inside, ConnectionInOrder, EveryDeskInOrder, DeskInOrder, Tidy}
 use Rattle.obeys.proofs.Reached.{step-keeps, reached-keeps}
@@ -85,14 +85,14 @@ module _ (d : Desk) (o : DeskInOrder d) where
   attached-in-order fits row good =
       connection-set o (freeConnection d) row (with-elsewhere (d .attached) (freeConnection d)) fits (added (d .attached) (freeConnection d) (omega arith)) (λ _. good)
 
-  pub in-order-effect : (call : Call) → Passable call → Pass (checks d call) → DeskInOrder (effect d call)
+  pub in-order-effect : (call : Call) → Passable call → Passed d call → DeskInOrder (effect d call)
   unfolding checks effect adopted state
   in-order-effect (by thread Channel) fits p = record {
     threads = o .threads;
     connections = o .connections;
     items = o .items;
     channels = λ channel used. elim (ℕ-discrete channel (freeChannel d)) [
-      | yes same ↦ omega (arith, ltb-true (freeChannel d) 8 (p .1 .0))
+      | yes same ↦ omega (arith, ltb-true (freeChannel d) 8 (p .held 9))
       | no apart ↦ o .channels channel (with-was (d .channels) (freeChannel d) channel apart used)
     ];
     times = o .times;
@@ -101,31 +101,31 @@ module _ (d : Desk) (o : DeskInOrder d) where
     one-item-a-pair = o .one-item-a-pair;
   }
   in-order-effect (by thread (NewThread time)) fits p =
-      let below : freeThread d < threadPlaces = ltb-true _ _ (p .1 .1 .0) in
+      let below : freeThread d < threadPlaces = ltb-true _ _ (p .held 9) in
       thread-set o (freeThread d) time (with-elsewhere (d .living) (freeThread d)) below (added (d .living) (freeThread d) (omega arith)) (omega arith)
   in-order-effect (by thread (AttachInput channel)) fits p =
-      attached-in-order (ltb-true _ _ (p .1 .1 .0)) _
-      (connected-in-order (itemsOf d) inward thread channel (visibleTime d thread) (inl refl) (visible d o thread (p .0) .at-most-never))
+      attached-in-order (ltb-true _ _ (p .held 9)) _
+      (connected-in-order (itemsOf d) inward thread channel (visibleTime d thread) (inl refl) (visible d o thread (p .held 1) .at-most-never))
   in-order-effect (by thread (AttachOutput channel)) fits p =
-      attached-in-order (ltb-true _ _ (p .1 .1 .0)) _ (connected-in-order (itemsOf d) outward thread channel 0 (inr refl) (omega arith))
+      attached-in-order (ltb-true _ _ (p .held 9)) _ (connected-in-order (itemsOf d) outward thread channel 0 (inr refl) (omega arith))
   in-order-effect (by thread (Detach connection)) fits p =
-      connection-set o connection noConnection (without-elsewhere (d .attached) connection) (owned-below d thread connection (p .1 .0)) (λ _. refl)
+      connection-set o connection noConnection (without-elsewhere (d .attached) connection) (owned-below d thread connection (p .held 3)) (λ _. refl)
       (λ used. absurd (true-not-false used (without-same (d .attached) connection)))
-  in-order-effect (by thread End) fits p = ended-in-order o thread (used-inside (d .living) (p .0))
+  in-order-effect (by thread End) fits p = ended-in-order o thread (used-inside (d .living) (p .held 1))
   in-order-effect (by thread (Set time)) fits p =
-      thread-set o thread time (same-elsewhere (d .living) thread) (used-inside (d .living) (p .0))
-      (λ unused. absurd (true-not-false (in-use-has (d .living) thread threadPlaces (p .0)) unused)) (omega arith)
+      thread-set o thread time (same-elsewhere (d .living) thread) (used-inside (d .living) (p .held 1))
+      (λ unused. absurd (true-not-false (in-use-has (d .living) thread threadPlaces (p .held 1)) unused)) (omega arith)
   in-order-effect (by thread (Put connection timestamp ticket)) fits p =
-      stored-in-order o _ (fewer-free (d .present) (ltb-true _ _ (p .1 .1 .1 .1 .1 .1 .0))) (ltb-true timestamp never (p .1 .1 .1 .0))
-      (leb-true _ _ (p .1 .1 .1 .1 .1 .0))
+      stored-in-order o _ (fewer-free (d .present) (ltb-true _ _ (p .held 8))) (ltb-true timestamp never (p .held 5))
+      (leb-true _ _ (p .held 7))
   in-order-effect (by thread (Get connection which)) fits p =
-      opened-in-order thread connection which (p .1 .0) (eqb-true _ inward (p .1 .1 .0)) (soughtBy d connection which) refl (p .1 .1 .1 .1 .0)
+      opened-in-order thread connection which (p .held 3) (eqb-true _ inward (p .held 4)) (soughtBy d connection which) refl (p .held 10)
   in-order-effect (by thread (Consume connection timestamp)) fits p =
-      owned-set thread connection (p .1 .0) _
-      (λ c. consumed-in-order c _ (open-fact (connectionAt (connectionsOf d) connection) timestamp _ (is-open _ (p .1 .1 .1 .1 .0))))
+      owned-set thread connection (p .held 3) _
+      (λ c. consumed-in-order c _ (open-fact (connectionAt (connectionsOf d) connection) timestamp _ (is-open _ (p .held 11))))
   in-order-effect (by thread (ConsumeUntil connection timestamp)) fits p =
-      owned-set thread connection (p .1 .0) _
-      (λ c. raised-in-order c (timestamp + 1) (omega (arith, ltb-true timestamp never (p .1 .1 .1 .0))))
+      owned-set thread connection (p .held 3) _
+      (λ c. raised-in-order c (timestamp + 1) (omega (arith, ltb-true timestamp never (p .held 5))))
   in-order-effect (sweep bound slice) fits p = swept-in-order o (boundOf d bound) (bound-top bound)
 
 pub every-desk-in-order : EveryDeskInOrder

@@ -1,36 +1,19 @@
 -- A step by its checks; a call leads from a reached desk to a reached desk, so a law of every reached desk needs one law of a step. Assumes nothing.
-use Rattle.obeys.proofs.Basis.{_∙_, _≡_, ap, refl, subst, List, [], _++_, _∷_, eqb, eqb-true, AllPassable, Call, Passable, by, sweep, AttachInput, AttachOutput, Channel, Consume, ConsumeUntil, Detach, End, Get, NewThread}
-use Rattle.obeys.proofs.Basis.{Put, Set, answer, answered, refusal, Codes, Pass, bool-cases, pass-refusal, passed, after, checks, effect, outcome, step, time, value, fresh, Desk, Reached}
+use Rattle.obeys.proofs.Basis.{AllPassable, Call, Desk, List, Pass, Passable, Passed, Reached, [], _++_, _∙_, _∷_, _≡_, accepted, after, ap, bool-cases, checks, codes, decided, effect, eqb, eqb-true, fresh, outcome, pass-decided, passed, passing, refl, step, subst, told}
 
 -- ---- a step
 
--- no check refuses with the code 0
-pub codes : (d : Desk) (call : Call) → Codes (checks d call)
-unfolding checks
-codes d (by thread Channel) = (refl, (refl, tt))
-codes d (by thread (NewThread when)) = (refl, (refl, (refl, tt)))
-codes d (by thread (AttachInput channel)) = (refl, (refl, (refl, tt)))
-codes d (by thread (AttachOutput channel)) = (refl, (refl, (refl, tt)))
-codes d (by thread (Detach connection)) = (refl, (refl, tt))
-codes d (by thread End) = (refl, tt)
-codes d (by thread (Set when)) = (refl, (refl, tt))
-codes d (by thread (Put connection timestamp ticket)) = (refl, (refl, (refl, (refl, (refl, (refl, (refl, tt)))))))
-codes d (by thread (Get connection which)) = (refl, (refl, (refl, (refl, (refl, tt)))))
-codes d (by thread (Consume connection timestamp)) = (refl, (refl, (refl, (refl, (refl, tt)))))
-codes d (by thread (ConsumeUntil connection timestamp)) = (refl, (refl, (refl, (refl, tt))))
-codes d (sweep bound slice) = (refl, tt)
-
 -- a call that passes its checks
-pub step-accepted : (d : Desk) (call : Call) → Pass (checks d call) → step d call ≡ record { answer = answer 0 (value d call) (time d call); desk = effect d call }
-unfolding step outcome answered
-step-accepted d call p = rw (pass-refusal (checks d call) p)
+pub step-accepted : (d : Desk) (call : Call) → Pass (checks d call) → step d call ≡ record { answer = accepted (told d call); desk = effect d call }
+unfolding step outcome
+step-accepted d call p = rw (pass-decided (checks d call) (told d call) p)
 
 -- what holds of a desk holds after a call, if the effects keep it
-pub step-keeps : (P : Desk → Type 0) (d : Desk) (call : Call) → P d → (Pass (checks d call) → P (effect d call)) → P (step d call .desk)
+pub step-keeps : (P : Desk → Type 0) (d : Desk) (call : Call) → P d → (Passed d call → P (effect d call)) → P (step d call .desk)
 unfolding step outcome
 step-keeps P d call kept changed =
-    bool-cases (eqb (refusal (checks d call)) 0)
-    (λ e. rw e (changed (passed (checks d call) (codes d call) (eqb-true (refusal (checks d call)) 0 e))))
+    bool-cases (eqb (decided (checks d call) (told d call) .code) 0)
+    (λ e. rw e (changed (passing d call (passed (checks d call) (told d call) (codes d call) (eqb-true _ 0 e)))))
     (λ e. rw e kept)
 
 after-keeps : (P : Desk → Type 0) → ((d : Desk) (call : Call) → P d → Passable call → P (step d call .desk))

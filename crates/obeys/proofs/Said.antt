@@ -1,7 +1,7 @@
 -- The desk answers each question as its view says. Assumes nothing.
-use Rattle.obeys.proofs.Basis.{_∙_, ap, refl, sym, inl, inr, Question, items-present, state-of, strong-bound, visible-time, weak-bound, stateNumber, never, Codes, Pass, answered-zero, pass-refusal, Desk, Connection, Says}
+use Rattle.obeys.proofs.Basis.{_∙_, _≡_, true, ap, refl, sym, inl, inr, Question, items-present, state-of, strong-bound, visible-time, weak-bound, stateNumber, never, coded, Pass, pass-decided, Desk, Connection, Says}
 use Rattle.obeys.proofs.Basis.{askedOf, stateOn, DeskSays, DeskInOrder, viewOf}
-use Rattle.desk.specs.Questions.{questionChecks, replyValue, replyTime, reply}
+use Rattle.desk.specs.Questions.{questionChecks, questionTold, reply}
 use Rattle.obeys.proofs.Order.{every-desk-in-order}
 use Rattle.obeys.proofs.Lookup.{unused-view, input-view, used-not-free, used-reads}
 use Rattle.obeys.proofs.Bounds.{visible, weak, strong}
@@ -9,27 +9,27 @@ use Rattle.obeys.proofs.Listed.{below, listed}
 use Rattle.obeys.proofs.Agreed.{agree-thread, agree-timestamp, agree-input, counted}
 use Rattle.obeys.proofs.Frame.{Agree, plain, check, either-way}
 
-question-codes : (d : Desk) (q : Question) → Codes (questionChecks d q)
+question-codes : (d : Desk) (q : Question) → coded (questionChecks d q) ≡ true
 unfolding questionChecks
-question-codes d (visible-time thread) = (refl, tt)
-question-codes d weak-bound = tt
-question-codes d strong-bound = tt
-question-codes d (state-of connection timestamp) = (refl, (refl, (refl, tt)))
-question-codes d items-present = tt
+question-codes d (visible-time thread) = refl
+question-codes d weak-bound = refl
+question-codes d strong-bound = refl
+question-codes d (state-of connection timestamp) = refl
+question-codes d items-present = refl
 
 module _ (d : Desk) (o : DeskInOrder d) where
-  question-agree : (q : Question) → Agree (replyValue d q) (replyTime d q) (questionChecks d q) (askedOf (viewOf d) q .refusals)
+  question-agree : (q : Question) → Agree (questionChecks d q) (askedOf (viewOf d) q .refusals)
   unfolding questionChecks
   question-agree (visible-time thread) = check (agree-thread d o thread) (λ _. tt)
   question-agree weak-bound = tt
   question-agree strong-bound = tt
   question-agree (state-of connection timestamp) =
-      check (plain _ 3 _ refl refl (unused-view d connection) (used-not-free d connection)) (λ used.
+      check (plain _ 3 _ (unused-view d connection) (used-not-free d connection)) (λ used.
       check (agree-input d o connection used) (λ goes. check (agree-timestamp d o timestamp) (λ _. tt)))
   question-agree items-present = tt
 
-  question-answers : (q : Question) → Pass (questionChecks d q) → askedOf (viewOf d) q .Tells (replyValue d q) (replyTime d q)
-  unfolding questionChecks replyValue replyTime
+  question-answers : (q : Question) → Pass (questionChecks d q) → askedOf (viewOf d) q .Tells (questionTold d q .value) (questionTold d q .time)
+  unfolding questionChecks questionTold
   question-answers (visible-time thread) p = (refl, visible d o thread (p .0))
   question-answers weak-bound p = (refl, weak d o)
   question-answers strong-bound p = (refl, strong d o)
@@ -40,11 +40,9 @@ module _ (d : Desk) (o : DeskInOrder d) where
   says : (q : Question) → Says (viewOf d) q (reply d q .code) (reply d q .value) (reply d q .time)
   unfolding reply
   says q =
-      let value = replyValue d q in
-      let time = replyTime d q in
-      either-way value time (questionChecks d q) (askedOf (viewOf d) q .refusals) (question-codes d q) (question-agree q)
-      (λ pass none. rw (pass-refusal (questionChecks d q) pass, answered-zero value time) (inr (none, refl, question-answers q pass)))
-      (λ e told. inl told)
+      either-way (questionTold d q) (questionChecks d q) (askedOf (viewOf d) q .refusals) (question-codes d q) (question-agree q)
+      (λ pass none. rw (pass-decided (questionChecks d q) (questionTold d q) pass) (inr (none, refl, question-answers q pass)))
+      (λ e refused. inl refused)
 
 pub desk-says : DeskSays
 desk-says d r q = says d (every-desk-in-order d r) q

@@ -212,8 +212,7 @@ returns c =
     let raised = raising .before .loop2 in
     let items = emptied .inv .1 ∙ ap (withItems desk (desk .present)) (each-done 64 emptiedStep (emptied .rest) (emptying .loop-test .left) (emptied .inv .0) (emptied .inv .2)) in
     let long = ap (λ (d : Desk). length (d .connections)) (emptied .inv .1) ∙ sized checked .0 in
-    let connections = raised .inv .1 ∙ ap (withConnections (emptied .self) (emptied .self .attached)) (swept-all (connectionsOf (emptied .self)) _ _ (raised .inv .0) (raising .loop2-test .left) long) in
-    (
+    let connections = raised .inv .1 ∙ ap (withConnections (emptied .self) (emptied .self .attached)) (swept-all (connectionsOf (emptied .self)) _ _ (raised .inv .0) (raising .loop2-test .left) long) in (
       swept-whole desk _ gone items connections (c .except .ensures) (accepted desk (swept desk _) (answer-of (handed .before .before)) (accepting .if1 .taken)),
       rw gone at (handed .hand-back .ensures),
     )
