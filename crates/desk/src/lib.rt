@@ -19,6 +19,7 @@ use tables::times::least_time;
 
 mod connections;
 mod items;
+mod made;
 mod questions;
 mod sweeps;
 mod threads;
