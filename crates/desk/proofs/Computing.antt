@@ -9,14 +9,14 @@ use Rattle.tables.specs.Tables.{inUse, owns, isInput, readsFor}
 use Rattle.tables.specs.Seen.{isItem, placeOf, state, lies, isUnseenAt, isOpenAt, isPendingAt}
 use Rattle.tables.specs.Times.{smallest, some, leastTime, openTime, leastOpen, leastKeep, isAwaited, leastAwaited}
 use Rattle.tables.specs.Search.{chosen, sought}
-use Rattle.leaving.specs.Leaving.{rowsOf, isBelow, itemsBelow, firstOf, ticketsInLine, handedBack, sweptItems, sweptConnections, ownedBy, freedConnections}
+use Rattle.leaving.specs.Leaving.{rowsOf, isBelow, itemsBelow, firstOf, ticketsInLine, handedBack, clearedItems, changedConnections, ownedBy, freedConnections}
 use Rattle.desk.specs.Desk.{fresh}
 use Rattle.desk.specs.Times.{visibleTime, weakBound, strongBound}
-use Rattle.desk.specs.Calls.{checks, adopted, attachedAs, ended, stored, swept, effect, told, outcome, step, sliceAfter}
+use Rattle.desk.specs.Calls.{checks, adopted, attachedAs, ended, stored, left, raisedTo, swept, effect, told, outcome, step, sliceAfter}
 use Rattle.desk.specs.Questions.{questionChecks, questionTold, reply}
 use Rattle.desk.specs.Calls.{after}
 
 -- named on an `unfolding` line, it opens them all
 unfoldable pub computing : Unit {0}
-unfolding foldTo each countOf lowestOf wordOf has with without both except lowest lowestFree count stateOf got consumedByName cleared raised decided before inUse owns isInput readsFor isItem placeOf state lies isUnseenAt isOpenAt isPendingAt smallest some leastTime openTime leastOpen leastKeep isAwaited leastAwaited chosen sought rowsOf isBelow itemsBelow firstOf ticketsInLine handedBack sweptItems sweptConnections ownedBy freedConnections fresh visibleTime weakBound strongBound checks adopted attachedAs ended stored swept effect told outcome step sliceAfter questionChecks questionTold reply after
+unfolding foldTo each countOf lowestOf wordOf has with without both except lowest lowestFree count stateOf got consumedByName cleared raised decided before inUse owns isInput readsFor isItem placeOf state lies isUnseenAt isOpenAt isPendingAt smallest some leastTime openTime leastOpen leastKeep isAwaited leastAwaited chosen sought rowsOf isBelow itemsBelow firstOf ticketsInLine handedBack clearedItems changedConnections ownedBy freedConnections fresh visibleTime weakBound strongBound checks adopted attachedAs ended stored left raisedTo swept effect told outcome step sliceAfter questionChecks questionTold reply after
 computing = tt

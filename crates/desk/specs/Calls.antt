@@ -26,7 +26,7 @@ use Rattle.rows.specs.Numbers.{never, noThread, noConnection, input, output}
 use Rattle.tables.specs.Tables.{connectionAt, isLiving, owns, threadPlaces, channelPlaces, connectionPlaces, itemPlaces}
 use Rattle.tables.specs.Seen.{placeOf, state}
 use Rattle.tables.specs.Search.{sought}
-use Rattle.leaving.specs.Leaving.{itemsBelow, handedBack, sweptItems, sweptConnections, ownedBy, freedConnections}
+use Rattle.leaving.specs.Leaving.{itemsBelow, handedBack, clearedItems, clearedConnections, raisedConnections, ownedBy, freedConnections}
 use Rattle.desk.specs.declared.Desk.{Desk}
 use Rattle.desk.specs.declared.Next.{Next}
 use Rattle.desk.specs.Desk.{threadsOf, connectionsOf, itemsOf, isChannel, withThreads, withChannels, withConnections, withItems}
@@ -195,13 +195,21 @@ abbrev pub becomesOpen : Desk → ℕ → Found → Desk
 becomesOpen d connection (At place item) = withConnection d connection (got (connectionAt (connectionsOf d) connection) place)
 becomesOpen d connection Nothing = d
 
+-- the items in some places leave: these are free, and "both are cleared for its place on every connection"
+unfoldable pub left : Desk → ℕ → Desk
+left d gone =
+    withItems
+    (withConnections d (d .attached) (clearedConnections (connectionsOf d) gone))
+    (except (d .present) gone)
+    (clearedItems (d .items) gone)
+
+-- "On every input connection the mark then becomes the larger of itself and the bound."
+unfoldable pub raisedTo : Desk → ℕ → Desk
+raisedTo d bound = withConnections d (d .attached) (raisedConnections (connectionsOf d) bound)
+
 -- "Every present item with a smaller timestamp leaves the desk."
 unfoldable pub swept : Desk → ℕ → Desk
-swept d bound =
-    withItems
-    (withConnections d (d .attached) (sweptConnections (connectionsOf d) bound (itemsBelow (itemsOf d) bound)))
-    (except (d .present) (itemsBelow (itemsOf d) bound))
-    (sweptItems (d .items) (itemsBelow (itemsOf d) bound))
+swept d bound = raisedTo (left d (itemsBelow (itemsOf d) bound)) bound
 
 abbrev deedEffect : Desk → ℕ → Deed → Desk
 deedEffect d thread Channel = withChannels d (with (d .channels) (freeChannel d))

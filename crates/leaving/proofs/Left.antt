@@ -1,27 +1,24 @@
 -- What a sweep hands back, ticket by ticket, and the rows that it leaves. Assumes nothing.
 use mathlib.Core.Path.{_≡_, refl, sym, ap, ap₂, _∙_}
-use mathlib.Core.Bool.{Bool, _&&_}
 use mathlib.Core.List.{List, _++_}
 use Prim.Native.Nat.{ℕ, zero, suc, _+_, _-_, _≤_, _<_}
-use native.Mathlib.Nat.{le-refl}
 use native.Mathlib.Numerals.{add-one}
 use native.Mathlib.Omega.{arith}
-use lib.Dec.{eqb}
 use lib.ListN.{length, getD, set, drop}
 use lib.Seq.{sets, sets-eq}
 use borrow.Author.Tests.{le-leb, lt-leb}
-use Rattle.words.specs.Places.{foldTo, each}
+use Rattle.words.specs.Places.{each}
 use Rattle.words.specs.Words.{has, count}
-use Rattle.words.proofs.Walk.{fold-next, fold-end}
+use Rattle.words.proofs.Walk.{each-ext}
 use Rattle.rows.specs.declared.Connection.{Connection}
 use Rattle.rows.specs.declared.Item.{Item}
 use Rattle.rows.specs.declared.Found.{Found}
 use Rattle.rows.specs.Choices.{before, preferred, ticketOf, leftOver}
-use Rattle.rows.specs.Numbers.{noConnection, noItem, input}
-use Rattle.tables.specs.Tables.{Table, connectionAt, isInput}
-use Rattle.leaving.specs.Leaving.{firstOf, ticketsInLine, handedBack, sweptConnection, sweptConnections, sweptItems}
+use Rattle.rows.specs.Numbers.{noConnection, noItem}
+use Rattle.tables.specs.Tables.{Table, isConnection}
+use Rattle.leaving.specs.Leaving.{firstOf, ticketsInLine, handedBack, changedConnections}
 use Rattle.tables.proofs.Used.{used-below}
-use Rattle.leaving.proofs.Rows.{each-rows, fold-rows, fold-untouched}
+use Rattle.leaving.proofs.Rows.{changed, each-rows}
 
 -- ---- the tickets
 
@@ -83,42 +80,12 @@ pub handed-short : (rows : List Item) (gone : ℕ) (slice : List ℕ) {n : ℕ} 
 unfolding handedBack
 handed-short rows gone slice {n} sized short = rw (← sized, lt-leb n (length slice) short)
 
--- ---- the items' rows
+-- ---- the rows afterwards
 
--- one turn of the loop over the items that leave
-abbrev pub emptiedStep : ℕ → List Item → List Item
-emptiedStep p rows = set rows p noItem
-
-pub emptied-all : (rows : List Item) (gone : ℕ) → length rows ≡ 64 → each 64 (has gone) emptiedStep rows ≡ sweptItems rows gone
-unfolding sweptItems
-emptied-all rows gone sized = each-rows 64 (has gone) (λ p. noItem) rows noItem sized
-
--- ---- the connections' rows
-
-module _ (connections : Table Connection) (bound gone : ℕ) where
-  -- one turn of the loop over the connections
-  abbrev pub sweptStep : ℕ → List Connection → List Connection
-  sweptStep k rows = set rows k (sweptConnection (isInput connections k) bound gone (connectionAt connections k))
-
-  -- the rows once the connections below k are swept
-  abbrev pub sweptTo : ℕ → List Connection
-  sweptTo k = foldTo sweptStep (connections .rows) k
-
-  -- the loop reads the row that it then writes: until then it is as it was
-  pub swept-turn : (k : ℕ) {rows : List Connection} {used : Bool} {row : Connection}
-      → k < 32
-      → rows ≡ sweptTo k
-      → used ≡ has (connections .used) k
-      → row ≡ sweptConnection (used && eqb (getD rows k noConnection .direction) input) bound gone (getD rows k noConnection)
-      → set rows k row ≡ sweptTo (k + 1)
-  unfolding isInput
-  swept-turn k {rows} inside reached used row =
-      let same = ap (λ (l : List Connection). getD l k noConnection) reached ∙ fold-untouched k _ (connections .rows) k noConnection (le-refl k) in
-      let reads = used ∙ sym (used-below (connections .used) inside) in
-      let turned = row ∙ ap₂ (λ (t : Bool) (r : Connection). sweptConnection (t && eqb (r .direction) input) bound gone r) reads same in
-      fold-next sweptStep (connections .rows) k reached (ap (set rows k) turned)
-
-  pub swept-all : {k : ℕ} → k ≤ 32 → 32 ≤ k → length (connections .rows) ≡ 32 → sweptTo k ≡ sweptConnections connections bound gone
-  unfolding sweptConnections
-  swept-all inside past sized =
-      fold-end sweptStep (connections .rows) refl inside past ∙ fold-rows 32 _ (connections .rows) noConnection sized
+-- the loop over the connections in use leaves every connection's row by the rule
+pub connections-changed : (connections : Table Connection) (rule : Connection → Connection) → length (connections .rows) ≡ 32
+    → each 32 (has (connections .used)) (changed rule noConnection) (connections .rows) ≡ changedConnections connections rule
+unfolding changedConnections
+connections-changed connections rule sized =
+    each-ext 32 _ _ (connections .rows) (has (connections .used)) (isConnection connections) (λ k inside. sym (used-below (connections .used) inside)) (λ k rows inside. refl)
+    ∙ each-rows 32 (isConnection connections) rule noConnection (connections .rows) sized

@@ -27,67 +27,64 @@ module _ {A : Type 0} where
 
   -- ---- rows that a loop wrote
 
-  module _ (t : ℕ → Bool) (rule : ℕ → A) (xs : List A) where
+  -- one turn of such a loop: the row in the place is read, and written by the rule
+  abbrev pub changed : (A → A) → A → ℕ → List A → List A
+  changed rule none k rows = set rows k (rule (getD rows k none))
+
+  module _ (t : ℕ → Bool) (rule : A → A) (none : A) (xs : List A) where
     -- the rows once those of the places below n that pass the test are written
     abbrev written : ℕ → List A
-    written n = each n t (λ k rows. set rows k (rule k)) xs
+    written n = each n t (changed rule none) xs
 
     length-written : (n : ℕ) → length (written n) ≡ length xs
     unfolding each foldTo
     length-written zero = refl
     length-written (suc n) = go (t n) (length-written n)
       where
-        go : (b : Bool) → length (written n) ≡ length xs → length (cond b (set (written n) n (rule n)) (written n)) ≡ length xs
-        go true e = length-set (written n) n (rule n) ∙ e
+        go : (b : Bool) → length (written n) ≡ length xs → length (cond b (changed rule none n (written n)) (written n)) ≡ length xs
+        go true e = length-set (written n) n (rule (getD (written n) n none)) ∙ e
         go false e = e
 
     -- the places from n on are as they were
-    past-written : (n k : ℕ) (d : A) → n ≤ k → getD (written n) k d ≡ getD xs k d
+    past-written : (n k : ℕ) → n ≤ k → getD (written n) k none ≡ getD xs k none
     unfolding each foldTo
-    past-written zero k d past = refl
-    past-written (suc n) k d past = go (t n) (past-written n k d (omega arith))
+    past-written zero k past = refl
+    past-written (suc n) k past = go (t n) (past-written n k (omega arith))
       where
-        go : (b : Bool) → getD (written n) k d ≡ getD xs k d → getD (cond b (set (written n) n (rule n)) (written n)) k d ≡ getD xs k d
-        go true e = getD-set-other (written n) n k (rule n) d (λ q. omega arith) ∙ e
+        go : (b : Bool) → getD (written n) k none ≡ getD xs k none → getD (cond b (changed rule none n (written n)) (written n)) k none ≡ getD xs k none
+        go true e = getD-set-other (written n) n k (rule (getD (written n) n none)) none (λ q. omega arith) ∙ e
         go false e = e
 
-    getD-written : (n k : ℕ) (d : A) → k < n → n ≤ length xs → getD (written n) k d ≡ cond (t k) (rule k) (getD xs k d)
+    getD-written : (n k : ℕ) → k < n → n ≤ length xs → getD (written n) k none ≡ cond (t k) (rule (getD xs k none)) (getD xs k none)
     unfolding each foldTo
-    getD-written zero k d inside fits = absurd (not-suc-le-zero inside)
-    getD-written (suc n) k d inside fits =
+    getD-written zero k inside fits = absurd (not-suc-le-zero inside)
+    getD-written (suc n) k inside fits =
         ⊎-elim
-        (λ e. subst (λ (i : ℕ). getD (written (suc n)) i d ≡ cond (t i) (rule i) (getD xs i d)) (sym e) (top (t n) refl))
-        (λ l. below (t n) l (getD-written n k d l (omega arith)))
+        (λ e. subst (λ (i : ℕ). getD (written (suc n)) i none ≡ cond (t i) (rule (getD xs i none)) (getD xs i none)) (sym e) (top (t n) refl))
+        (λ l. below (t n) l (getD-written n k l (omega arith)))
         (eq-or-lt-of-le (le-of-suc-le-suc inside))
       where
-        top : (b : Bool) → t n ≡ b → getD (cond b (set (written n) n (rule n)) (written n)) n d ≡ cond (t n) (rule n) (getD xs n d)
-        top true q = getD-set-same (written n) n (rule n) d (omega (arith, length-written n)) ∙ rw q
-        top false q = past-written n n d (le-refl n) ∙ rw q
+        top : (b : Bool) → t n ≡ b → getD (cond b (changed rule none n (written n)) (written n)) n none ≡ cond (t n) (rule (getD xs n none)) (getD xs n none)
+        top true q =
+            getD-set-same (written n) n (rule (getD (written n) n none)) none (omega (arith, length-written n))
+            ∙ ap rule (past-written n n (le-refl n))
+            ∙ rw q
+        top false q = past-written n n (le-refl n) ∙ rw q
 
-        below : (b : Bool) → k < n → getD (written n) k d ≡ cond (t k) (rule k) (getD xs k d) → getD (cond b (set (written n) n (rule n)) (written n)) k d ≡ cond (t k) (rule k) (getD xs k d)
-        below true l e = getD-set-other (written n) n k (rule n) d (λ q. omega arith) ∙ e
+        below : (b : Bool) → k < n → getD (written n) k none ≡ cond (t k) (rule (getD xs k none)) (getD xs k none)
+            → getD (cond b (changed rule none n (written n)) (written n)) k none ≡ cond (t k) (rule (getD xs k none)) (getD xs k none)
+        below true l e = getD-set-other (written n) n k (rule (getD (written n) n none)) none (λ q. omega arith) ∙ e
         below false l e = e
 
-  pub each-rows : (n : ℕ) (t : ℕ → Bool) (rule : ℕ → A) (xs : List A) (d : A) → length xs ≡ n
-      → each n t (λ k rows. set rows k (rule k)) xs ≡ rowsOf (λ k. cond (t k) (rule k) (getD xs k d)) n
-  each-rows n t rule xs d sized =
-      let long = length-written t rule xs n in
-      let by-rule : ℕ → A = λ k. cond (t k) (rule k) (getD xs k d) in
-      ext-getD d (written t rule xs n) (rowsOf by-rule n) (long ∙ sized ∙ sym (length-rowsOf by-rule n))
+  -- a loop that writes the rows of some places, each from what stood there, leaves the rows by a rule
+  pub each-rows : (n : ℕ) (t : ℕ → Bool) (rule : A → A) (none : A) (xs : List A) → length xs ≡ n
+      → each n t (changed rule none) xs ≡ rowsOf (λ k. cond (t k) (rule (getD xs k none)) (getD xs k none)) n
+  each-rows n t rule none xs sized =
+      let long = length-written t rule none xs n in
+      let by-rule : ℕ → A = λ k. cond (t k) (rule (getD xs k none)) (getD xs k none) in
+      ext-getD none (written t rule none xs n) (rowsOf by-rule n) (long ∙ sized ∙ sym (length-rowsOf by-rule n))
       (λ k l. let inside : k < n = omega arith in
-      getD-written t rule xs n k d inside (omega arith) ∙ sym (getD-rowsOf by-rule n k d inside))
-
-  -- the same of a loop that writes every row
-  pub fold-rows : (n : ℕ) (rule : ℕ → A) (xs : List A) (d : A) → length xs ≡ n
-      → foldTo (λ k rows. set rows k (rule k)) xs n ≡ rowsOf rule n
-  unfolding each
-  fold-rows n rule xs d sized = each-rows n (λ k. true) rule xs d sized
-
-  -- such a loop has not touched the row that it comes to, nor a later one
-  pub fold-untouched : (n : ℕ) (rule : ℕ → A) (xs : List A) (k : ℕ) (d : A) → n ≤ k
-      → getD (foldTo (λ i rows. set rows i (rule i)) xs n) k d ≡ getD xs k d
-  unfolding each
-  fold-untouched n rule xs k d past = past-written (λ i. true) rule xs n k d past
+      getD-written t rule none xs n k inside (omega arith) ∙ sym (getD-rowsOf by-rule n k none inside))
 
 -- the length of an array of structs, from what owning it tells: that is said of its elements, mapped
 pub length-mapped : (X Y : Type 0) (f : X → Y) (l : List X) (n : ℕ) → length (map f l) ≡ n → length l ≡ n

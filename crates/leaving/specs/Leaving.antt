@@ -2,17 +2,17 @@
 use mathlib.Core.Bool.{Bool, cond, _&&_}
 use mathlib.Core.List.{List, [], _∷_, _++_}
 use Prim.Native.Nat.{ℕ, zero, suc}
-use lib.Dec.{leb, ltb}
+use lib.Dec.{eqb, leb, ltb}
 use lib.ListN.{drop, getD, length}
 use Rattle.words.specs.Places.{wordOf}
 use Rattle.words.specs.Words.{count, has}
 use Rattle.rows.specs.declared.Connection.{Connection}
 use Rattle.rows.specs.declared.Item.{Item}
 use Rattle.rows.specs.declared.Found.{Found}
-use Rattle.rows.specs.Numbers.{noConnection, noItem}
+use Rattle.rows.specs.Numbers.{noConnection, noItem, input}
 use Rattle.rows.specs.Facts.{cleared, raised}
 use Rattle.rows.specs.Choices.{before, ticketOf, leftOver}
-use Rattle.tables.specs.Tables.{Table, connectionAt, itemAt, isPresent, isInput, owns, connectionPlaces, itemPlaces}
+use Rattle.tables.specs.Tables.{Table, connectionAt, itemAt, isPresent, isConnection, owns, connectionPlaces, itemPlaces}
 use Rattle.tables.specs.Search.{chosen}
 
 -- the rows of a table of n places, by a rule for each place
@@ -42,17 +42,26 @@ handedBack rows gone slice =
     cond (leb (count gone) (length slice)) (ticketsInLine rows (count gone) gone ++ drop (count gone) slice) slice
 
 -- the places of the items that left hold zeros
-unfoldable pub sweptItems : List Item → ℕ → List Item
-sweptItems rows gone = rowsOf (λ p. cond (has gone p) noItem (getD rows p noItem)) itemPlaces
+unfoldable pub clearedItems : List Item → ℕ → List Item
+clearedItems rows gone = rowsOf (λ p. cond (has gone p) noItem (getD rows p noItem)) itemPlaces
+
+-- the connections' rows with another row for every connection, by a rule
+unfoldable pub changedConnections : Table Connection → (Connection → Connection) → List Connection
+changedConnections connections rule =
+    rowsOf
+    (λ k. cond (isConnection connections k) (rule (connectionAt connections k)) (connectionAt connections k))
+    connectionPlaces
 
 -- "When an item leaves the desk, both are cleared for its place on every connection."
--- "On every input connection the mark then becomes the larger of itself and the bound."
-abbrev pub sweptConnection : Bool → ℕ → ℕ → Connection → Connection
-sweptConnection reads bound gone connection = cond reads (raised (cleared connection gone) bound) (cleared connection gone)
+abbrev pub clearedConnections : Table Connection → ℕ → List Connection
+clearedConnections connections gone = changedConnections connections (λ row. cleared row gone)
 
-unfoldable pub sweptConnections : Table Connection → ℕ → ℕ → List Connection
-sweptConnections connections bound gone =
-    rowsOf (λ k. sweptConnection (isInput connections k) bound gone (connectionAt connections k)) connectionPlaces
+-- "On every input connection the mark then becomes the larger of itself and the bound."
+abbrev pub raisedInput : Connection → ℕ → Connection
+raisedInput row bound = cond (eqb (row .direction) input) (raised row bound) row
+
+abbrev pub raisedConnections : Table Connection → ℕ → List Connection
+raisedConnections connections bound = changedConnections connections (λ row. raisedInput row bound)
 
 -- the places of a thread's connections
 unfoldable pub ownedBy : Table Connection → ℕ → ℕ

@@ -1,11 +1,9 @@
 // What leaves the desk's tables by a sweep or an end, and the rows afterwards.
 ghost use mathlib.Core.Path.{_≡_};
-ghost use mathlib.Core.Bool.{_&&_, cond};
-ghost use lib.Dec.{eqb};
+ghost use mathlib.Core.Bool.{cond};
 ghost use Rattle.words.specs.Words.{with};
-ghost use Rattle.rows.specs.Numbers.{input};
 ghost use Rattle.tables.specs.Tables.{table};
-ghost use Rattle.leaving.specs.Leaving.{freedConnections, handedBack, itemsBelow, ownedBy, sweptConnection};
+ghost use Rattle.leaving.specs.Leaving.{clearedConnections, clearedItems, freedConnections, handedBack, itemsBelow, ownedBy, raisedConnections, raisedInput};
 use rows::Connection;
 use rows::Found;
 use rows::Item;
@@ -63,18 +61,69 @@ pub fn hand_back(items: [Item; 64], gone: u64, slice: &mut [u64])
     }
 }
 
-// A connection's row after a sweep: its facts of the items that left are cleared, and an input's mark is raised.
-pub fn swept_row(used: bool, bound: u32, gone: u64, connection: Connection) -> Connection
-    ensures { λ r. ⌜ r ≡ sweptConnection (used && eqb (connection .direction) input) bound gone connection ⌝ }
+// The items' rows once those in the places have left.
+pub fn cleared_items(items: [Item; 64], gone: u64) -> [Item; 64]
+    ensures { λ r. ⌜ r ≡ clearedItems items gone ⌝ }
 {
-    let clear = connection.cleared(gone);
-    if !used {
-        return clear;
+    let mut left = items;
+    let mut rest = gone;
+    let mut p = words::lowest(rest);
+    while p < 64 {
+        left[p as usize] = Item::NONE;
+        rest = words::without(rest, p);
+        p = words::lowest(rest);
     }
+    left
+}
+
+// The connections' rows once items have left: their facts are cleared on every connection.
+pub fn cleared_connections(
+    connections: [Connection; 32],
+    attached: u64,
+    gone: u64,
+) -> [Connection; 32]
+    ensures { λ r. ⌜ r ≡ clearedConnections (table attached connections) gone ⌝ }
+{
+    let mut clear = connections;
+    let mut rest = attached;
+    let mut k = words::lowest(rest);
+    while k < 32 {
+        let row = clear[k as usize];
+        clear[k as usize] = row.cleared(gone);
+        rest = words::without(rest, k);
+        k = words::lowest(rest);
+    }
+    clear
+}
+
+// The connection's row with its mark raised, where it is an input.
+fn raised_input(connection: Connection, bound: u32) -> Connection
+    ensures { λ r. ⌜ r ≡ raisedInput connection bound ⌝ }
+{
     if connection.direction != Connection::INPUT {
-        return clear;
+        return connection;
     }
-    clear.raised(bound)
+    connection.raised(bound)
+}
+
+// The connections' rows once the mark of every input connection is raised.
+pub fn raised_connections(
+    connections: [Connection; 32],
+    attached: u64,
+    bound: u32,
+) -> [Connection; 32]
+    ensures { λ r. ⌜ r ≡ raisedConnections (table attached connections) bound ⌝ }
+{
+    let mut raised = connections;
+    let mut rest = attached;
+    let mut k = words::lowest(rest);
+    while k < 32 {
+        let row = raised[k as usize];
+        raised[k as usize] = raised_input(row, bound);
+        rest = words::without(rest, k);
+        k = words::lowest(rest);
+    }
+    raised
 }
 
 // The places of the thread's connections.

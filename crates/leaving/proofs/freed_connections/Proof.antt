@@ -1,44 +1,31 @@
--- `leaving::freed_connections` meets its contract. Assumes nothing.
-use mathlib.Core.Path.{_≡_, refl, _∙_}
+-- The walk over the places of the freed connections writes zeros into each of their rows. Assumes nothing.
+use mathlib.Core.Path.{_≡_, refl}
 use native.Mathlib.Omega.{arith}
-use lib.ListN.{set, length}
+use lib.ListN.{length}
 use borrow.Author.Needs.{needs}
 use Rattle.words.specs.Places.{each}
 use Rattle.words.specs.Words.{has, lowest, count}
 use Rattle.words.proofs.Walk.{each-turn, each-done, each-falls}
 use Rattle.rows.specs.Numbers.{noConnection}
 use Rattle.leaving.specs.Leaving.{freedConnections}
-use Rattle.leaving.proofs.Rows.{each-rows, length-mapped}
+use Rattle.leaving.proofs.Rows.{changed, each-rows, length-mapped}
 use Rattle.leaving.proofs.freed_connections.Statement.{statement}
 use Rattle.leaving.proofs.freed_connections.Tie as tie
 
+-- from every turn on, the walk over what is left leads to the rows wanted
 abbrev Inv-loop : tie.InvT-loop
 Inv-loop gone left₀ rest₀ k₀ left rest k =
-    (k ≡ lowest rest) × (each 32 (has rest) (λ i rows. set rows i noConnection) left ≡ each 32 (has rest₀) (λ i rows. set rows i noConnection) left₀)
+    (k ≡ lowest rest) × (each 32 (has rest) (changed (λ row. noConnection) noConnection) left ≡ freedConnections left₀ gone)
 
 abbrev μ-loop : tie.MeasureT-loop
 μ-loop gone left₀ rest₀ k₀ left rest k = count rest
 
-lowest-requires : tie.Need-lowest-requires Inv-loop μ-loop
-lowest-requires c κs = search needs
-
 loop-holds : tie.Need-loop-holds Inv-loop μ-loop
-loop-holds c = (c .lowest .ensures, refl)
-
-cast-left : tie.Need-cast-left Inv-loop μ-loop
-cast-left c = search needs
-
-mul-left : tie.Need-mul-left Inv-loop μ-loop
-mul-left c = search needs
-
-array-set-from-left : tie.Need-array-set-from-left Inv-loop μ-loop
-array-set-from-left c = search needs
-
-without-requires : tie.Need-without-requires Inv-loop μ-loop
-without-requires c κs = search needs
-
-lowest-requires-2 : tie.Need-lowest-requires-2 Inv-loop μ-loop
-lowest-requires-2 c κs = search needs
+unfolding freedConnections
+loop-holds c =
+    let rows = c .before .args .connections in
+    let sized : length rows ≡ 32 = search (length-mapped, needs) in
+    (c .lowest .ensures, each-rows 32 _ (λ row. noConnection) noConnection rows sized)
 
 loop-less : tie.Need-loop-less Inv-loop μ-loop
 loop-less c =
@@ -52,12 +39,9 @@ loop-again c =
     (c .lowest2 .ensures, each-turn 32 _ (here .rest) (here .left) (omega arith) (turn .loop-test .taken) (here .inv .0) refl (c .before .without .ensures) (here .inv .1))
 
 returns : tie.Need-returns Inv-loop μ-loop
-unfolding freedConnections
 returns c =
     let here = c .before .loop in
-    let rows = c .before .before .before .args .connections in
-    let sized : length rows ≡ 32 = search (length-mapped, needs) in
-    each-done 32 _ (here .rest) (c .loop-test .left) (here .inv .0) (here .inv .1) ∙ each-rows 32 _ _ rows noConnection sized
+    each-done 32 _ (here .rest) (c .loop-test .left) (here .inv .0) (here .inv .1)
 
 pub freed-connections-spec : {M : Type 1} → statement M
 freed-connections-spec =
@@ -65,13 +49,13 @@ freed-connections-spec =
     (tie.spec
     Inv-loop
     μ-loop
-    lowest-requires
+    (λ c κs. search needs)
     loop-holds
-    cast-left
-    mul-left
-    array-set-from-left
-    without-requires
-    lowest-requires-2
+    (λ c. search needs)
+    (λ c. search needs)
+    (λ c. search needs)
+    (λ c κs. search needs)
+    (λ c κs. search needs)
     loop-less
     loop-again
     returns)
