@@ -1,12 +1,14 @@
 -- The accounts balance: the items present are one list, and every call changes its length by what its answer says. Assumes nothing.
+use mathlib.Core.List.{sum, zipWith}
 use Rattle.calls.specs.Questions.{Request}
-use Rattle.rules.proofs.Basis.{_≡_, sym, ap, subst, Bool, not, List, [], inl, inr, by-cases, Option·none-ne-some, ℕ, _+_, _≤_, ℕ-discrete, arith, lt-of-not-le, ltb, length, Deed, Bound, Call, by, sweep, isPut, isSweep}
-use Rattle.rules.specs.Claims.{ItemsAreListed, AccountsBalance}
-use Rattle.rules.specs.Rules.{never, View, freshView, Item, Listed, Outcome, deedRow, rule, NoneOf, Does}
-use Rattle.rules.specs.Runs.{Run, stop, next, Reply, replyOf, Gives, ifAccepted, acceptedPuts, ticketsBack}
+use Rattle.rules.proofs.Basis.{_≡_, sym, ap, subst, Bool, not, List, [], inl, inr, by-cases, ℕ, _+_, _≤_, ℕ-discrete, arith, lt-of-not-le, ltb, length, Deed, Bound, Call, by, sweep, isPut, isSweep}
+use Rattle.rules.specs.Claims.{ItemsAreListed, AccountsBalance, FreshAccountsBalance}
+use Rattle.rules.specs.Rules.{never, View, Item, Listed, Outcome, deedRow, rule, NoneOf, Does}
+use Rattle.rules.specs.Runs.{fresh, Run, stop, next, Reply, replyOf, Gives, ifAccepted, acceptedPuts, ticketsBack}
 use Rattle.rules.proofs.Made.{Made, quietly, puts, made}
 use Rattle.rules.proofs.One.{refuses-coded, all-settled}
 use Rattle.rules.proofs.OneList.{listed-one}
+use Rattle.rules.proofs.Starts.{fresh-listed, starts-listed}
 use Rattle.rules.proofs.Stock.{some-of, halves, listed-below, stock-swept, stock-added}
 use Rattle.rules.proofs.Ways.{not-refused, untaken, bound-at-least}
 
@@ -61,22 +63,27 @@ over-calls (next {v} {w} call out pass does rest) items those fits =
 
 over-replies : {v w : View} {requests : List Request} {replies : List Reply} → Gives v requests replies w → (items : List Item) → Listed v never items
     → (more : List Item) × Listed w never more × (acceptedPuts requests replies + length items ≡ length more + ticketsBack requests replies)
-unfolding acceptedPuts ticketsBack
+unfolding acceptedPuts ticketsBack sum zipWith
 over-replies Gives.stop items those = (items, those, omega arith)
 over-replies (Gives.called {v} {w} {call} out does rest) items those =
     let t = does-tally v items those call out does in
-    let (more, now, sum) = over-replies rest (t .more) (t .those) in
-    (more, now, omega (arith, sum, t .balance))
-over-replies (Gives.questioned code value time says rest) items those = over-replies rest items those
-
-fresh-listed : Listed freshView never []
-fresh-listed = record { in-line = tt; exactly = λ item. (λ q. absurd q, λ (here, early). absurd (Option·none-ne-some (item .ticket) here)) }
+    let (more, now, balance) = over-replies rest (t .more) (t .those) in
+    (more, now, omega (arith, balance, t .balance))
+over-replies (Gives.questioned code value time says rest) items those =
+    let (more, now, balance) = over-replies rest items those in
+    (more, now, omega (arith, balance))
 
 pub accounts-balance : AccountsBalance
-accounts-balance requests replies v code value time gives (inl refused) = absurd refused
-accounts-balance requests replies v code value time gives (inr (clear, zero-is, (items, those, counted, nought))) =
-    let (more, now, sum) = over-replies gives [] fresh-listed in
-    omega (arith, sum, counted, ap length (listed-one those now))
+accounts-balance start v starts own those requests replies code value time gives (inl refused) = absurd refused
+accounts-balance start v starts own those requests replies code value time gives (inr (clear, zero-is, (items, present, counted, nought))) =
+    let (more, now, balance) = over-replies gives own those in
+    omega (arith, balance, counted, ap length (listed-one present now))
+
+pub fresh-accounts-balance : FreshAccountsBalance
+fresh-accounts-balance requests replies v code value time gives says =
+    omega (arith, accounts-balance _ v fresh [] fresh-listed requests replies code value time gives says)
 
 pub items-are-listed : ItemsAreListed
-items-are-listed v run = over-calls run [] fresh-listed (omega arith)
+items-are-listed v reached =
+    let (items, those, few) = starts-listed (reached .starts) in
+    over-calls (reached .run) items those few

@@ -1,10 +1,11 @@
--- Every view that calls reach is in order: the fresh one is, and each of the six ways keeps it so. Assumes nothing.
-use Rattle.rules.proofs.Basis.{_≡_, _∙_, refl, sym, ap, subst, true, cond, true≢false, none, some, Option·none-ne-some, ℕ, _≤_, _<_, arith, ltb, le-ltb, Call, Ticket, Passable}
+-- Every view that calls reach is in order: a start is, and each of the six ways keeps it so. Assumes nothing.
+use Rattle.rules.proofs.Basis.{_≡_, _∙_, refl, sym, ap, subst, true, cond, none, some, Option·none-ne-some, ℕ, _≤_, _<_, arith, ltb, le-ltb, Call, Ticket, Passable}
 use Rattle.rules.specs.Claims.{ViewInOrder, EveryViewInOrder}
-use Rattle.rules.specs.Rules.{never, View, at, freshView, Outcome, Does}
+use Rattle.rules.specs.Rules.{never, View, at, Outcome, Does}
 use Rattle.rules.specs.Runs.{Run, stop, next}
 use Rattle.rules.proofs.Connections.{fits-on, ConnectionFitsIn, fits-freed, fits-noticing, fits-raised}
 use Rattle.rules.proofs.Laws.{at-elim, item-elim, below-elim}
+use Rattle.rules.proofs.Starts.{starts-in-order}
 use Rattle.rules.proofs.Ways.{Kind, by-kind, makes, sets, changes, ends, stocks, sweeps}
 
 pub kind-in-order : (v : View) → ViewInOrder v → (w : View) → Kind v w → ViewInOrder w
@@ -54,15 +55,6 @@ kind-in-order v o w (sweeps bound above) = record {
 pub does-in-order : (v : View) → ViewInOrder v → (call : Call) → Passable call → (out : Outcome) → Does v call out → ViewInOrder (out .view)
 does-in-order v o = by-kind v o ViewInOrder o (kind-in-order v o)
 
-fresh-in-order : ViewInOrder freshView
-fresh-in-order = record {
-  threads = λ t x. at-elim (λ s. s ≡ some x → (t < 16) × (x ≤ never)) (λ _. none) 0 (some 0) t
-      (λ e h. (let q : 0 ≡ x = cc in (omega arith, omega arith))) (λ ne h. absurd (Option·none-ne-some x h));
-  channels = λ c h. absurd (true≢false (sym h));
-  connections = λ k. tt;
-  items = λ c t n h. absurd (Option·none-ne-some n h);
-}
-
 -- what the six ways keep holds after any calls
 pub by-calls : (P : View → Type 0) → ((v : View) → ViewInOrder v → P v → (w : View) → Kind v w → P w) → {v w : View} → Run v w → ViewInOrder v → P v → P w
 by-calls P each stop o here = here
@@ -73,4 +65,4 @@ pub calls-in-order : {v w : View} → Run v w → ViewInOrder v → ViewInOrder 
 calls-in-order calls o = by-calls ViewInOrder (λ v o here. kind-in-order v o) calls o o
 
 pub every-view-in-order : EveryViewInOrder
-every-view-in-order v run = calls-in-order run fresh-in-order
+every-view-in-order v reached = calls-in-order (reached .run) (starts-in-order (reached .starts))

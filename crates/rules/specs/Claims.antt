@@ -16,7 +16,7 @@ use Rattle.calls.specs.Calls.{Call, sweep, detach, end, put, get, consume, isSw
 use Rattle.calls.specs.Questions.{Question, items-present, Request}
 use Rattle.calls.specs.States.{stateNumber}
 use Rattle.rules.specs.Rules.{never, Connection, unused, output, input, View, freshView, owner, outputTo, inputFrom, KeepTime, stateOn, WeakBound, StrongBound, BoundOf, Item, IsPresent, _∈_, InLine, Listed, tickets, Outcome, Does, Says}
-use Rattle.rules.specs.Runs.{Run, Reachable, CouldBeGot, Reply, Gives, acceptedPuts, ticketsBack}
+use Rattle.rules.specs.Runs.{Run, Start, Reachable, CouldBeGot, Reply, Gives, acceptedPuts, ticketsBack}
 
 -- ---- every call is answered, in one way
 
@@ -233,9 +233,16 @@ NoPairTwice =
 abbrev pub ItemsAreListed : Type 0
 ItemsAreListed = (v : View) → Reachable v → (items : List Item) × Listed v never items × (length items ≤ 64)
 
--- "Over any calls from a fresh desk, the accepted puts number the items present plus all tickets handed back, both taken from the answers.":
--- `accounts-balance`
+-- the accounts from any start, whose own items count as puts: `accounts-balance`
 abbrev pub AccountsBalance : Type 0
 AccountsBalance =
+    (start v : View) → Start start → (own : List Item) → Listed start never own → (requests : List Request) (replies : List Reply) (code value time : ℕ)
+    → Gives start requests replies v → Says v items-present code value time
+    → length own + acceptedPuts requests replies ≡ value + ticketsBack requests replies
+
+-- "Over any calls from a fresh desk, the accepted puts number the items present plus all tickets handed back, both taken from the answers.":
+-- `fresh-accounts-balance`
+abbrev pub FreshAccountsBalance : Type 0
+FreshAccountsBalance =
     (requests : List Request) (replies : List Reply) (v : View) (code value time : ℕ) → Gives freshView requests replies v → Says v items-present code value time
     → acceptedPuts requests replies ≡ value + ticketsBack requests replies
