@@ -4,6 +4,7 @@ pub mod Laws
 pub mod Starts
 pub mod Connections
 pub mod Ways
+pub mod Leaving
 pub mod Moved
 pub mod Order
 pub mod Seen

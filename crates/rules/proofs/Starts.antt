@@ -2,7 +2,7 @@
 -- both, here. Assumes nothing.
 use Rattle.rules.proofs.Basis.{_≡_, sym, true≢false, List, [], none, some, Option·none-ne-some, _≤_, _<_, arith, length}
 use Rattle.rules.specs.Claims.{ViewInOrder}
-use Rattle.rules.specs.Rules.{never, View, freshView, Item, Listed}
+use Rattle.rules.specs.Rules.{never, everything, View, freshView, Item, Listed}
 use Rattle.rules.specs.Runs.{Start, fresh}
 use Rattle.rules.proofs.Laws.{at-elim}
 
@@ -15,11 +15,11 @@ fresh-in-order = record {
   items = λ c t n h. absurd (Option·none-ne-some n h);
 }
 
-pub fresh-listed : Listed freshView never []
-fresh-listed = record { in-line = tt; exactly = λ item. (λ q. absurd q, λ (here, early). absurd (Option·none-ne-some (item .ticket) here)) }
+pub fresh-listed : Listed freshView everything []
+fresh-listed = record { in-line = tt; exactly = λ item. (λ q. absurd q, λ (here, any). absurd (Option·none-ne-some (item .ticket) here)) }
 
 pub starts-in-order : {v : View} → Start v → ViewInOrder v
 starts-in-order fresh = fresh-in-order
 
-pub starts-listed : {v : View} → Start v → (items : List Item) × Listed v never items × (length items ≤ 64)
+pub starts-listed : {v : View} → Start v → (items : List Item) × Listed v everything items × (length items ≤ 64)
 starts-listed fresh = ([], fresh-listed, omega arith)

@@ -19,7 +19,7 @@ pub data Run : View → View → Type 0 where
 pub data Start : View → Type 0 where
   fresh : Start freshView
 
--- "From a fresh desk, after any calls"
+-- "From a fresh desk, after any calls", and from any other start
 pub record Reachable (v : View) : Type 0 where
   pub start : View
   pub starts : Start start
