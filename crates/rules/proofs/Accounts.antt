@@ -5,12 +5,13 @@ use Rattle.rules.proofs.Basis.{_≡_, sym, ap, subst, Bool, not, List, 
 use Rattle.rules.specs.Claims.{ItemsAreListed, AccountsBalance, FreshAccountsBalance}
 use Rattle.rules.specs.Rules.{everything, below, View, Item, Listed, Outcome, deedRow, rule, NoneOf, Does}
 use Rattle.rules.specs.Runs.{fresh, Run, stop, next, Reply, replyOf, Gives, ifAccepted, acceptedPuts, ticketsBack}
+use Rattle.rules.proofs.Clear.{Clear, cleared, not-refused}
 use Rattle.rules.proofs.Made.{Made, quietly, puts, made}
 use Rattle.rules.proofs.One.{refuses-coded, all-settled}
 use Rattle.rules.proofs.OneList.{listed-one}
 use Rattle.rules.proofs.Starts.{fresh-listed, starts-listed}
 use Rattle.rules.proofs.Stock.{some-of, halves, is-among, listed-among, stock-left, stock-added}
-use Rattle.rules.proofs.Ways.{not-refused, untaken}
+use Rattle.rules.proofs.Ways.{untaken}
 
 -- the stock after a call, against the stock before it
 pub record Tally (call : Call) (items : List Item) (out : Outcome) : Type 0 where
@@ -23,16 +24,16 @@ module _ (v : View) (items : List Item) (those : Listed v everything items) wher
   same-listed : (w : View) → ((channel timestamp : ℕ) → w .item channel timestamp ≡ v .item channel timestamp) → Listed w everything items
   same-listed w same = record { in-line = those .in-line; exactly = λ item. rw (same (item .channel) (item .timestamp)) (those .exactly item) }
 
-  deed-tally : (thread : ℕ) (deed : Deed) (out : Outcome) → Made v deed out → NoneOf (deedRow v thread deed .refusals) → Tally (by thread deed) items out
+  deed-tally : (thread : ℕ) (deed : Deed) (out : Outcome) → Made v deed out → Clear v (by thread deed) → Tally (by thread deed) items out
   deed-tally thread deed out (quietly its value time w calm same) clear =
       record { more = items; those = same-listed w same; balance = rw calm (omega arith); fits = λ q. q }
   deed-tally thread deed out (puts connection channel timestamp ticket into) clear =
-      let (more, now, one-more) = stock-added v channel timestamp ticket (untaken v connection channel timestamp (not-refused (clear .1 .1 .1 .1 .0)) into) items those in
+      let (more, now, one-more) = stock-added v channel timestamp ticket (untaken v connection channel timestamp (not-refused (clear 7)) into) items those in
       record {
         more = more;
         those = now;
         balance = omega (arith, one-more);
-        fits = λ q. by-cases (ℕ-discrete (length items) 64) (λ full. absurd (not-refused (clear .1 .1 .1 .1 .1 .0) (items, those, full))) (λ room. omega (arith, one-more));
+        fits = λ q. by-cases (ℕ-discrete (length items) 64) (λ full. absurd (not-refused (clear 8) (items, those, full))) (λ room. omega (arith, one-more));
       }
 
   swept-tally : (bound : Bound) (slice : List ℕ) (out : Outcome) → rule v (sweep bound slice) .Accepts out → Tally (sweep bound slice) items out
@@ -52,7 +53,7 @@ module _ (v : View) (items : List Item) (those : Listed v everything items) wher
   does-tally call out (inl (refused, view, lent)) =
       let code = refuses-coded (rule v call .refusals) (all-settled v call) (out .code) (out .value) (out .time) refused in
       record { more = items; those = subst (λ (w : View). Listed w everything items) (sym view) those; balance = rw code (omega arith); fits = λ q. q }
-  does-tally (by thread deed) out (inr (clear, accepts)) = deed-tally thread deed out (made v thread deed out accepts) (clear .1)
+  does-tally (by thread deed) out (inr (free, accepts)) = deed-tally thread deed out (made v thread deed out accepts) (cleared v (by thread deed) free)
   does-tally (sweep bound slice) out (inr (clear, accepts)) = swept-tally bound slice out accepts
 
 over-calls : {v w : View} → Run v w → (items : List Item) → Listed v everything items → length items ≤ 64 → (more : List Item) × Listed w everything more × (length more ≤ 64)

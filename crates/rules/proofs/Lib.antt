@@ -1,6 +1,7 @@
 -- What follows from the rules.
 pub mod Basis
 pub mod Laws
+pub mod Clear
 pub mod Starts
 pub mod Connections
 pub mod Ways

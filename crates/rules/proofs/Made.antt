@@ -3,8 +3,9 @@ use Rattle.rules.proofs.Basis.{_≡_, _∙_, refl, sym, ap, ap₂, subs
 use Rattle.rules.proofs.Basis.{sweep, put, isPutDeed}
 use Rattle.rules.specs.Claims.{RefusedChangesNothing, OnlySweepsRemove, OnlyPutsBring}
 use Rattle.rules.specs.Rules.{View, outputTo, Item, IsPresent, Outcome, done, withItem, deedRow, rule, NoneOf}
+use Rattle.rules.proofs.Clear.{Clear, cleared, not-refused}
 use Rattle.rules.proofs.Laws.{not-none, item-elim, below-elim}
-use Rattle.rules.proofs.Ways.{not-refused, untaken}
+use Rattle.rules.proofs.Ways.{untaken}
 
 pub data Made (v : View) : Deed → Outcome → Type 0 where
   quietly : (deed : Deed) (value time : ℕ) (w : View) → isPutDeed deed ≡ false → ((channel timestamp : ℕ) → w .item channel timestamp ≡ v .item channel timestamp)
@@ -57,16 +58,16 @@ withItem-brings v channel timestamp ticket item =
     v channel timestamp ticket (item .channel) (item .timestamp)
     (λ c t here. inl (λ i. record { channel = c i; timestamp = t i; ticket = sym (Option·some-injective ticket (item .ticket) here) i })) inr
 
-made-keeps : (v : View) (thread : ℕ) (deed : Deed) (out : Outcome) → Made v deed out → NoneOf (deedRow v thread deed .refusals)
+made-keeps : (v : View) (thread : ℕ) (deed : Deed) (out : Outcome) → Made v deed out → Clear v (by thread deed)
     → (item : Item) → IsPresent v item → IsPresent (out .view) item
 made-keeps v thread deed out (quietly its value time w calm same) clear item here = same (item .channel) (item .timestamp) ∙ here
 made-keeps v thread deed out (puts connection channel timestamp ticket into) clear item here =
-    withItem-keeps v channel timestamp ticket (untaken v connection channel timestamp (not-refused (clear .1 .1 .1 .1 .0)) into) item here
+    withItem-keeps v channel timestamp ticket (untaken v connection channel timestamp (not-refused (clear 7)) into) item here
 
 pub only-sweeps-remove : OnlySweepsRemove
 only-sweeps-remove v run call fits quiet out (inl (refused, same, lent)) item here = subst (λ (w : View). IsPresent w item) (sym same) here
-only-sweeps-remove v run (by thread deed) fits quiet out (inr (clear, accepts)) item here =
-    made-keeps v thread deed out (made v thread deed out accepts) (clear .1) item here
+only-sweeps-remove v run (by thread deed) fits quiet out (inr (free, accepts)) item here =
+    made-keeps v thread deed out (made v thread deed out accepts) (cleared v (by thread deed) free) item here
 only-sweeps-remove v run (sweep bound slice) fits quiet out (inr (clear, accepts)) item here = absurd (true≢false quiet)
 
 abbrev Brings : View → Call → Item → Type 0

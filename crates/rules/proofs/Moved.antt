@@ -4,9 +4,9 @@ use Rattle.rules.proofs.Basis.{_≡_, _∙_, refl, sym, ap, subst, cond
 use Rattle.rules.proofs.Basis.{Which, Channel, NewThread, AttachInput, AttachOutput, Detach, End, Set, Put, Get, Consume, ConsumeUntil, Call, by, sweep, get, consume, detach, end}
 use Rattle.rules.specs.Claims.{OnlyGetsOpen, OnlyConsumesConsume, ConnectionsStay}
 use Rattle.rules.specs.Rules.{Connection, unused, output, input, View, at, owner, outputTo, inputFrom, KeepTime, stateOn, ifInput, seenAs, consumedBelow, noticed, noticing, unseenIf, firstSeen, freedFrom, Outcome, rule, NoneOf, Does}
+use Rattle.rules.proofs.Clear.{Clear, cleared, not-refused}
 use Rattle.rules.proofs.Laws.{cond-elim, at-elim, below-elim, some-is, some-one, not-none}
 use Rattle.rules.proofs.Leaving.{swept-connection}
-use Rattle.rules.proofs.Ways.{not-refused}
 
 -- what a call, answered with this time, makes of the connection with this number
 data Moved (call : Call) (time k : ℕ) : Connection → Connection → Type 0 where
@@ -37,7 +37,7 @@ module _ (v : View) (k : ℕ) where
   one-moves call time number old new was here = at-elim (Moved call time k (v .connection k)) (v .connection) number new k
       (λ e. subst (λ (n : ℕ). Moved call time n (v .connection n) new) (sym e) (subst (λ (c : Connection). Moved call time number c new) (sym was) here)) (λ ne. kept (v .connection k))
 
-  moves : (call : Call) → NoneOf (rule v call .refusals) → (out : Outcome) → rule v call .Accepts out → Goal call out
+  moves : (call : Call) → Clear v call → (out : Outcome) → rule v call .Accepts out → Goal call out
   moves (by thread Channel) clear out (number, low, e) = subst (Goal (by thread Channel)) (sym e) (kept (v .connection k))
   moves (by thread (NewThread time)) clear out (number, low, e) = subst (Goal (by thread (NewThread time))) (sym e) (kept (v .connection k))
   moves (by thread (AttachInput channel)) clear out (number, visible, low, is, e) =
@@ -45,7 +45,7 @@ module _ (v : View) (k : ℕ) where
   moves (by thread (AttachOutput channel)) clear out (number, low, e) =
       subst (Goal (by thread (AttachOutput channel))) (sym e) (one-moves _ 0 number unused _ (low .0) (writes-now thread channel))
   moves (by thread (Detach connection)) clear out e = subst (Goal (by thread (Detach connection))) (sym e) (one-moves _ 0 connection _ unused refl
-      (given-up thread (v .connection connection) (Dec·not-not (some-is thread (owner (v .connection connection))) .0 (not-refused (clear .1 .0))) (inl refl)))
+      (given-up thread (v .connection connection) (Dec·not-not (some-is thread (owner (v .connection connection))) .0 (not-refused (clear 3))) (inl refl)))
   moves (by thread End) clear out e = subst (Goal (by thread End)) (sym e) (freed-moved (by thread End) 0 k thread refl (v .connection k))
   moves (by thread (Set time)) clear out e = subst (Goal (by thread (Set time))) (sym e) (kept (v .connection k))
   moves (by thread (Put connection timestamp ticket)) clear out (channel, into, e) =
@@ -61,7 +61,7 @@ module _ (v : View) (k : ℕ) where
 
   moved : (call : Call) (out : Outcome) → Does v call out → Goal call out
   moved call out (inl (refused, view, lent)) = subst (λ (w : View). Moved call (out .time) k (v .connection k) (w .connection k)) (sym view) (kept (v .connection k))
-  moved call out (inr (clear, accepts)) = moves call clear out accepts
+  moved call out (inr (free, accepts)) = moves call (cleared v call free) out accepts
 
 -- ---- what follows for each way
 

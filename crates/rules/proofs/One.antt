@@ -47,9 +47,6 @@ counted v bound slice = record {
       (value ∙ ap length (below-one v bound time time′ items items′ is is′ those those′ .1) ∙ sym value′, nought ∙ sym nought′);
 }
 
-which-settled : (which : Which) → Settled (named-never which)
-which-settled which = elim which [ Earliest ↦ plainly 5 _ refl | Latest ↦ plainly 5 _ refl | Named timestamp ↦ plainly 5 _ refl ]
-
 pub all-settled : (v : View) (call : Call) → Every Settled (rule v call .refusals)
 all-settled v (by thread Channel) = plainly 1 _ refl & plainly 9 _ refl & nothing-more
 all-settled v (by thread (NewThread time)) = plainly 1 _ refl & plainly 6 _ refl & plainly 9 _ refl & nothing-more
@@ -60,7 +57,7 @@ all-settled v (by thread End) = plainly 1 _ refl & nothing-more
 all-settled v (by thread (Set time)) = plainly 1 _ refl & plainly 6 _ refl & nothing-more
 all-settled v (by thread (Put connection timestamp ticket)) =
     plainly 1 _ refl & plainly 3 _ refl & plainly 4 _ refl & plainly 5 _ refl & plainly 6 _ refl & plainly 7 _ refl & plainly 8 _ refl & nothing-more
-all-settled v (by thread (Get connection which)) = plainly 1 _ refl & plainly 3 _ refl & plainly 4 _ refl & which-settled which & plainly 10 _ refl & nothing-more
+all-settled v (by thread (Get connection which)) = plainly 1 _ refl & plainly 3 _ refl & plainly 4 _ refl & plainly 5 _ refl & plainly 10 _ refl & nothing-more
 all-settled v (by thread (Consume connection timestamp)) = plainly 1 _ refl & plainly 3 _ refl & plainly 4 _ refl & plainly 5 _ refl & plainly 11 _ refl & nothing-more
 all-settled v (by thread (ConsumeUntil connection timestamp)) = plainly 1 _ refl & plainly 3 _ refl & plainly 4 _ refl & plainly 5 _ refl & nothing-more
 all-settled v (sweep bound slice) = counted v bound slice & nothing-more

@@ -2,6 +2,7 @@
 use Rattle.rules.proofs.Basis.{_≡_, refl, sym, subst, inl, inr, _≢_, none, some, Option·some-injective, ℕ, _≤_, arith, le-refl, State, Absent, Unseen, Open, Consumed, stateNumber, Call, by, sweep, Passable}
 use Rattle.rules.specs.Claims.{Forward, Sees, ViewInOrder, EveryInputSees, SeenMovesForward}
 use Rattle.rules.specs.Rules.{Connection, unused, output, input, View, inputFrom, KeepTime, stateOn, Outcome, Does}
+use Rattle.rules.proofs.Clear.{cleared}
 use Rattle.rules.proofs.Connections.{opens, Turned, Turn, ConnectionFitsIn, rests, alike, freed, consumes, writes, comes, reads, moves, turned-raised}
 use Rattle.rules.proofs.Leaving.{swept-connection}
 use Rattle.rules.proofs.Order.{every-view-in-order}
@@ -43,7 +44,8 @@ turned-forward (moves thread channel mark later seen now up turns) was is =
 -- each connection changes as a connection may: by the way of a deed, or as a sweep raises its mark
 does-turned : (v : View) → ViewInOrder v → (call : Call) → Passable call → (out : Outcome) → Does v call out → (k : ℕ) → Turned v (v .connection k) (out .view .connection k)
 does-turned v o call fits out (inl (refused, view, lent)) k = subst (λ (w : View). Turned v (v .connection k) (w .connection k)) (sym view) (alike (v .connection k))
-does-turned v o (by thread deed) fits out (inr (clear, accepts)) k = kind-turned v (out .view) (deed-kind v o thread deed fits clear out accepts) k
+does-turned v o (by thread deed) fits out (inr (free, accepts)) k =
+    kind-turned v (out .view) (deed-kind v o thread deed fits (cleared v (by thread deed) free) out accepts) k
 does-turned v o (sweep bound slice) fits out (inr (clear, (time, items, is, those, e))) k =
     subst (λ (x : Outcome). Turned v (v .connection k) (x .view .connection k)) (sym e)
     (subst (Turned v (v .connection k)) (sym (swept-connection time (v .connection k))) (turned-raised v time (v .connection k)))

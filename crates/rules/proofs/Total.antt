@@ -3,8 +3,9 @@ use Rattle.rules.proofs.Basis.{_≡_, _∙_, refl, ap, subst, false, Bo
 use Rattle.rules.proofs.Basis.{Named, Channel, NewThread, AttachInput, AttachOutput, Detach, End, Set, Put, Get, Consume, ConsumeUntil, Bound, Weak, Strong, Call, by, sweep, sliceOf}
 use Rattle.calls.specs.Questions.{Question, visible-time, weak-bound, strong-bound, state-of, items-present}
 use Rattle.rules.specs.Claims.{EveryCallAnswered, EveryQuestionAnswered, ViewInOrder}
-use Rattle.rules.specs.Rules.{never, everything, View, owner, outputTo, inputFrom, stateOn, VisibleTime, Item, Listed, Refusal, refuse, no-thread, not-its-own, named-never, FreeThread, FreeChannel, FreeConnection, TakesUnseen, slice-short, Outcome, Lowest, rule, Refuses, NoneOf, Does, BoundOf}
+use Rattle.rules.specs.Rules.{never, everything, View, owner, outputTo, inputFrom, stateOn, VisibleTime, Item, Listed, Refusal, refuse, no-thread, not-its-own, NamesNever, FreeThread, FreeChannel, FreeConnection, TakesUnseen, slice-short, Outcome, Lowest, rule, Refuses, NoneOf, Does, BoundOf}
 use Rattle.rules.specs.Rules.{no-channel, table-full, askedOf, Says}
+use Rattle.rules.proofs.Clear.{Clear, cleared, not-refused}
 use Rattle.rules.proofs.Accounts.{items-are-listed}
 use Rattle.rules.proofs.Bounds.{bound-is-there}
 use Rattle.rules.proofs.Gettable.{is-unused}
@@ -14,7 +15,7 @@ use Rattle.rules.proofs.OneList.{listed-one}
 use Rattle.rules.proofs.Order.{every-view-in-order}
 use Rattle.rules.proofs.Stock.{low-items}
 use Rattle.rules.proofs.Ways as Ways
-use Rattle.rules.proofs.Ways.{waiting, not-refused, takes-fits}
+use Rattle.rules.proofs.Ways.{waiting, takes-fits}
 
 -- ---- the refusals are decided
 
@@ -85,8 +86,8 @@ module _ (v : View) (o : ViewInOrder v) (items : List Item) (those : Listed v ev
   lacks-is : (connection : ℕ) (which : Which) → Dec ((timestamp : ℕ) → TakesUnseen v connection which timestamp → ⊥)
   lacks-is connection which = map-dec (λ lacks t q. lacks (t, q)) (λ lacks (t, q). lacks t q) (Dec·not (takes-is connection which))
 
-  which-settles : (which : Which) → Settles (named-never which)
-  which-settles which = elim which [ Earliest ↦ plain 5 (no (λ q. q)) | Latest ↦ plain 5 (no (λ q. q)) | Named name ↦ plain 5 (decLe never name) ]
+  named-is : (which : Which) → Dec (NamesNever which)
+  named-is which = elim which [ Earliest ↦ no (λ q. q) | Latest ↦ no (λ q. q) | Named name ↦ decLe never name ]
 
   short-settles : (bound : Bound) (slice : List ℕ) → Settles (slice-short v (BoundOf v bound) slice)
   short-settles bound slice =
@@ -116,7 +117,7 @@ module _ (v : View) (o : ViewInOrder v) (items : List Item) (those : Listed v ev
       living-is thread & own-is thread connection & plain 4 (is-none (outputTo (v .connection connection))) & plain 5 (decLe never timestamp)
       & plain 6 (early-is thread timestamp) & plain 7 (taken-is connection timestamp) & plain 8 full-is & nothing-more
   settles (by thread (Get connection which)) =
-      living-is thread & own-is thread connection & plain 4 (is-none (inputFrom (v .connection connection))) & which-settles which
+      living-is thread & own-is thread connection & plain 4 (is-none (inputFrom (v .connection connection))) & plain 5 (named-is which)
       & plain 10 (lacks-is connection which) & nothing-more
   settles (by thread (Consume connection timestamp)) =
       living-is thread & own-is thread connection & plain 4 (is-none (inputFrom (v .connection connection))) & plain 5 (decLe never timestamp)
@@ -127,27 +128,27 @@ module _ (v : View) (o : ViewInOrder v) (items : List Item) (those : Listed v ev
 
   -- ---- and where none is the case the call is accepted
 
-  accepts : (call : Call) → NoneOf (rule v call .refusals) → (out : Outcome) × rule v call .Accepts out
+  accepts : (call : Call) → Clear v call → (out : Outcome) × rule v call .Accepts out
   accepts (by thread Channel) clear =
-      let (number, low) = lowest-free 8 (FreeChannel v) (λ n. Bool-discrete (v .channel n) false) (not-refused (clear .1 .0)) in
+      let (number, low) = lowest-free 8 (FreeChannel v) (λ n. Bool-discrete (v .channel n) false) (not-refused (clear 9)) in
       (_, (number, low, refl))
   accepts (by thread (NewThread time)) clear =
-      let (number, low) = lowest-free 16 (FreeThread v) (λ n. is-none (v .thread n)) (not-refused (clear .1 .1 .0)) in
+      let (number, low) = lowest-free 16 (FreeThread v) (λ n. is-none (v .thread n)) (not-refused (clear 9)) in
       (_, (number, low, refl))
   accepts (by thread (AttachInput channel)) clear =
-      let (number, low) = lowest-free 32 (FreeConnection v) (λ n. is-unused (v .connection n)) (not-refused (clear .1 .1 .0)) in
+      let (number, low) = lowest-free 32 (FreeConnection v) (λ n. is-unused (v .connection n)) (not-refused (clear 9)) in
       let (visible, is) = Ways.visible-time v o thread in
       (_, (number, visible, low, is, refl))
   accepts (by thread (AttachOutput channel)) clear =
-      let (number, low) = lowest-free 32 (FreeConnection v) (λ n. is-unused (v .connection n)) (not-refused (clear .1 .1 .0)) in
+      let (number, low) = lowest-free 32 (FreeConnection v) (λ n. is-unused (v .connection n)) (not-refused (clear 9)) in
       (_, (number, low, refl))
   accepts (by thread (Detach connection)) clear = (_, refl)
   accepts (by thread End) clear = (_, refl)
   accepts (by thread (Set time)) clear = (_, refl)
   accepts (by thread (Put connection timestamp ticket)) clear =
-      option-cases (outputTo (v .connection connection)) (λ e. absurd (not-refused (clear .1 .1 .0) e)) (λ channel e. (_, (channel, e, refl)))
+      option-cases (outputTo (v .connection connection)) (λ e. absurd (not-refused (clear 4) e)) (λ channel e. (_, (channel, e, refl)))
   accepts (by thread (Get connection which)) clear =
-      let (timestamp, takes) = Dec·not-not (takes-is connection which) .0 (λ lacks. not-refused (clear .1 .1 .1 .1 .0) (λ t q. lacks (t, q))) in
+      let (timestamp, takes) = Dec·not-not (takes-is connection which) .0 (λ lacks. not-refused (clear 10) (λ t q. lacks (t, q))) in
       let w = waiting v o connection timestamp (inl (takes-fits which _ timestamp takes)) in
       (_, (w .channel, timestamp, w .ticket, ap inputFrom (w .is), takes, w .there, refl))
   accepts (by thread (Consume connection timestamp)) clear = (_, refl)
@@ -156,7 +157,7 @@ module _ (v : View) (o : ViewInOrder v) (items : List Item) (those : Listed v ev
 
   answered : (call : Call) → Verdict (rule v call .refusals) → (out : Outcome) × Does v call out
   answered call (inl (code, value, time, x)) = (record { code = code; value = value; time = time; view = v; slice = sliceOf call }, inl (x, refl, refl))
-  answered call (inr clear) = let (out, is) = accepts call clear in (out, inr (clear, is))
+  answered call (inr free) = let (out, is) = accepts call (cleared v call free) in (out, inr (free, is))
 
   -- ---- and so is a question
 

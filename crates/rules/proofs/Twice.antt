@@ -3,13 +3,14 @@ use Rattle.rules.proofs.Basis.{_≡_, _∙_, refl, sym, ap₂, subst, _
 use Rattle.rules.specs.Claims.{ViewInOrder, PutBy, ComesBackAsPut, NoPairTwice}
 use Rattle.rules.specs.Rules.{Pairs, View, left, Outcome}
 use Rattle.rules.specs.Runs.{Run, Reachable}
+use Rattle.rules.proofs.Clear.{cleared, not-refused}
 use Rattle.rules.proofs.Bounds.{at-least-kind}
 use Rattle.rules.proofs.Connections.{Allowed}
 use Rattle.rules.proofs.Laws.{cond-elim, some-one, not-none, item-elim}
 use Rattle.rules.proofs.Leaving.{left-at-least}
 use Rattle.rules.proofs.One.{accepted}
 use Rattle.rules.proofs.Order.{does-in-order, calls-in-order, every-view-in-order, Kept, by-calls}
-use Rattle.rules.proofs.Ways.{not-refused, allowed, AtLeast, at-least-allowed, Kind, makes, sets, changes, ends, stocks, raises, MayLeave}
+use Rattle.rules.proofs.Ways.{allowed, AtLeast, at-least-allowed, Kind, makes, sets, changes, ends, stocks, raises, MayLeave}
 
 -- the pair was put with this ticket: the item is there, or it left and the time is past
 abbrev Spent : ℕ → ℕ → ℕ → View → Type 0
@@ -66,6 +67,7 @@ comes-back-as-put v w run channel timestamp ticket other out by-it calls there =
 pub no-pair-twice : NoPairTwice
 no-pair-twice v w run channel timestamp ticket other out last first calls again =
     let (o, spent) = spent-after v w run channel timestamp ticket out first calls in
-    let clear = accepted w (put (again .thread) (again .connection) timestamp other) last (again .does) (again .accepted) .0 in
-    ⊎-elim (λ here. not-refused (clear .1 .1 .1 .1 .1 .0) (channel, ticket, again .into, here))
-    (λ (lacks, above). omega (arith, at-least-allowed above timestamp (allowed w o (again .thread) timestamp (not-refused (clear .1 .1 .1 .1 .0))))) spent
+    let call = put (again .thread) (again .connection) timestamp other in
+    let clear = cleared w call (accepted w call last (again .does) (again .accepted) .0) in
+    ⊎-elim (λ here. not-refused (clear 7) (channel, ticket, again .into, here))
+    (λ (lacks, above). omega (arith, at-least-allowed above timestamp (allowed w o (again .thread) timestamp (not-refused (clear 6))))) spent

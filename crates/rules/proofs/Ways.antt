@@ -3,15 +3,12 @@
 use Rattle.rules.proofs.Basis.{_≡_, refl, sym, subst, Bool, true, false, inl, inr, ⊎-elim, Dec·and, Dec·not-not, Dec·of-iff, none, some, Option·some-injective, Option·none-ne-some, ℕ, suc, _≤_, _<_, arith, le-refl, lt-of-not-le, ltb-true, State, Unseen, Open, Consumed, Which, Earliest, Latest}
 use Rattle.rules.proofs.Basis.{Named, Deed, Channel, NewThread, AttachInput, AttachOutput, Detach, End, Set, Put, Get, Consume, ConsumeUntil, Bound, Weak, Strong, Call, by, sweep, Ticket, Passable, stateNumber}
 use Rattle.rules.specs.Claims.{Living, ViewInOrder}
-use Rattle.rules.specs.Rules.{never, Pairs, below, Connection, unused, output, input, View, withThread, withChannel, withConnection, owner, outputTo, KeepTime, stateOn, IsTime, VisibleTime, BoundOf, Takes, Outcome, Lowest, withItem, ended, left, raised, deedRow, rule, NoneOf, Does, seenAs}
+use Rattle.rules.specs.Rules.{never, Pairs, below, Connection, unused, output, input, View, withThread, withChannel, withConnection, owner, outputTo, KeepTime, stateOn, IsTime, VisibleTime, BoundOf, Takes, Outcome, Lowest, withItem, ended, left, raised, deedRow, rule, Does, seenAs}
+use Rattle.rules.proofs.Clear.{Clear, cleared, not-refused}
 use Rattle.rules.proofs.Connections.{Turned, Allowed, Waits, ConnectionFitsIn, Turn, absent-done, reads, turned-freed, writes, turned-seen-as, turned-noticing, turned-raised, sees-first, seen-there, fits-seen-as, seen-above, fits-raised, freed, alike, opens, consumes}
 use Rattle.rules.proofs.Laws.{smallest-above, not-below, option-cases, smallest, at-elim, either, some-is, exists-below, state-is, smallest-one}
 
 -- ---- what is not refused
-
--- a refusal that does not answer is not the case
-pub not-refused : {Case : Type 0} → ((value time : ℕ) → Case × (value ≡ 0) × (time ≡ 0) → ⊥) → Case → ⊥
-not-refused clear case = clear 0 0 (case, refl, refl)
 
 -- the lowest free number is inside its table, where 9 does not refuse
 free-inside : {Free : ℕ → Type 0} {number : ℕ} (places : ℕ) → Lowest Free number → (((n : ℕ) → n < places → Free n → ⊥) → ⊥) → number < places
@@ -153,35 +150,35 @@ module _ (v : View) (o : ViewInOrder v) where
   sees-kind number timestamp state there waits turn =
       changes number _ (fits-seen-as v number state timestamp there (v .connection number) waits (o .connections number)) (turned-seen-as v state timestamp (v .connection number) turn)
 
-  pub deed-kind : (thread : ℕ) (deed : Deed) → Passable (by thread deed) → NoneOf (rule v (by thread deed) .refusals) → (out : Outcome) → deedRow v thread deed .Accepts out → Goal out
-  deed-kind thread Channel fits clear out (number, low, e) = subst Goal (sym e) (makes number (free-inside 8 low (not-refused (clear .1 .0))))
+  pub deed-kind : (thread : ℕ) (deed : Deed) → Passable (by thread deed) → Clear v (by thread deed) → (out : Outcome) → deedRow v thread deed .Accepts out → Goal out
+  deed-kind thread Channel fits clear out (number, low, e) = subst Goal (sym e) (makes number (free-inside 8 low (not-refused (clear 9))))
   deed-kind thread (NewThread time) fits clear out (number, low, e) =
-      subst Goal (sym e) (sets number time (free-inside 16 low (not-refused (clear .1 .1 .0))) (omega (arith, fits .1)) (allowed v o thread time (not-refused (clear .1 .0))))
+      subst Goal (sym e) (sets number time (free-inside 16 low (not-refused (clear 9))) (omega (arith, fits .1)) (allowed v o thread time (not-refused (clear 6))))
   deed-kind thread (AttachInput channel) fits clear out (number, visible, low, is, e) = subst Goal (sym e) (attach-kind number _ (low .0)
-      (free-inside 32 low (not-refused (clear .1 .1 .0)), lives v thread (not-refused (clear .0)), is-there (v .channel channel) (not-refused (clear .1 .0)), is .at-most-never, sees-first (v .item channel) visible)
+      (free-inside 32 low (not-refused (clear 9)), lives v thread (not-refused (clear 1)), is-there (v .channel channel) (not-refused (clear 2)), is .at-most-never, sees-first (v .item channel) visible)
       (reads thread channel visible (thread, visible, is, le-refl visible)))
   deed-kind thread (AttachOutput channel) fits clear out (number, low, e) = subst Goal (sym e) (attach-kind number _ (low .0)
-      (free-inside 32 low (not-refused (clear .1 .1 .0)), lives v thread (not-refused (clear .0)), is-there (v .channel channel) (not-refused (clear .1 .0))) (writes thread channel))
+      (free-inside 32 low (not-refused (clear 9)), lives v thread (not-refused (clear 1)), is-there (v .channel channel) (not-refused (clear 2))) (writes thread channel))
   deed-kind thread (Detach connection) fits clear out e = subst Goal (sym e) (changes connection unused tt (freed (v .connection connection)))
   deed-kind thread End fits clear out e = subst Goal (sym e) (ends thread)
   deed-kind thread (Set time) fits clear out e =
-      let (was, is) = lives v thread (not-refused (clear .0)) in
-      subst Goal (sym e) (sets thread time (o .threads thread was is .0) (omega (arith, fits .1)) (allowed v o thread time (not-refused (clear .1 .0))))
+      let (was, is) = lives v thread (not-refused (clear 1)) in
+      subst Goal (sym e) (sets thread time (o .threads thread was is .0) (omega (arith, fits .1)) (allowed v o thread time (not-refused (clear 6))))
   deed-kind thread (Put connection timestamp ticket) fits clear out (channel, into, e) = subst Goal (sym e) (stocks channel timestamp ticket
       (written-exists v connection channel (v .connection connection) (o .connections connection) into)
-      (lt-of-not-le (not-refused (clear .1 .1 .1 .0))) (fits .1 .2) (allowed v o thread timestamp (not-refused (clear .1 .1 .1 .1 .0)))
-      (untaken v connection channel timestamp (not-refused (clear .1 .1 .1 .1 .1 .0)) into))
+      (lt-of-not-le (not-refused (clear 5))) (fits .1 .2) (allowed v o thread timestamp (not-refused (clear 6)))
+      (untaken v connection channel timestamp (not-refused (clear 7)) into))
   deed-kind thread (Get connection which) fits clear out (channel, timestamp, ticket, from, takes, there, e) =
       let unseen : stateOn (v .connection connection) timestamp ≡ Unseen = takes-fits which _ timestamp takes in
       subst Goal (sym e) (sees-kind connection timestamp Open (omega arith) (inl unseen) (rw unseen opens))
   deed-kind thread (Consume connection timestamp) fits clear out e =
-      let is-open = Dec·not-not (state-is Open (stateOn (v .connection connection) timestamp)) .0 (not-refused (clear .1 .1 .1 .1 .0)) in
+      let is-open = Dec·not-not (state-is Open (stateOn (v .connection connection) timestamp)) .0 (not-refused (clear 11)) in
       subst Goal (sym e) (sees-kind connection timestamp Consumed (omega arith) (inr is-open) (consumes _))
   deed-kind thread (ConsumeUntil connection timestamp) fits clear out e = subst Goal (sym e) (changes connection _
-      (fits-raised v connection (suc timestamp) (lt-of-not-le (not-refused (clear .1 .1 .1 .0))) (v .connection connection) (o .connections connection))
+      (fits-raised v connection (suc timestamp) (lt-of-not-le (not-refused (clear 5))) (v .connection connection) (o .connections connection))
       (turned-raised v (suc timestamp) (v .connection connection)))
 
-  accepted-leads : (call : Call) → Passable call → NoneOf (rule v call .refusals) → (out : Outcome) → rule v call .Accepts out → Leads v (out .view)
+  accepted-leads : (call : Call) → Passable call → Clear v call → (out : Outcome) → rule v call .Accepts out → Leads v (out .view)
   accepted-leads (by thread deed) fits clear out accepts = by-way (deed-kind thread deed fits clear out accepts)
   accepted-leads (sweep bound slice) fits clear out (time, items, is, those, e) =
       let a = at-least-waits o bound (bound-at-least bound is) in
@@ -190,7 +187,7 @@ module _ (v : View) (o : ViewInOrder v) where
 
   pub does-leads : (call : Call) → Passable call → (out : Outcome) → Does v call out → Leads v (out .view)
   does-leads call fits out (inl (refused, view, lent)) = subst (Leads v) (sym view) rests
-  does-leads call fits out (inr (clear, accepts)) = accepted-leads call fits clear out accepts
+  does-leads call fits out (inr (free, accepts)) = accepted-leads call fits (cleared v call free) out accepts
 
 -- in every one of them each connection changes as a connection may
 pub kind-turned : (v w : View) → Kind v w → (k : ℕ) → Turned v (v .connection k) (w .connection k)

@@ -296,10 +296,13 @@ abbrev pub no-timestamp : ℕ → Refusal
 no-timestamp time = refuse 5 (never ≤ time)
 
 -- "Only a named one can meet 5."
+abbrev pub NamesNever : Which → Type 0
+NamesNever Earliest = ⊥
+NamesNever Latest = ⊥
+NamesNever (Named timestamp) = never ≤ timestamp
+
 abbrev pub named-never : Which → Refusal
-named-never Earliest = refuse 5 ⊥
-named-never Latest = refuse 5 ⊥
-named-never (Named timestamp) = no-timestamp timestamp
+named-never which = refuse 5 (NamesNever which)
 
 -- 6: "time below the caller's visible time"
 abbrev pub too-early : View → ℕ → ℕ → Refusal
