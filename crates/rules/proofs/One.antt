@@ -47,19 +47,21 @@ counted v bound slice = record {
       (value ∙ ap length (below-one v bound time time′ items items′ is is′ those those′ .1) ∙ sym value′, nought ∙ sym nought′);
 }
 
+-- a refusal that tells nothing beside its code needs no word here
+ruleset settled = (_&_, nothing-more, plainly)
+
 pub all-settled : (v : View) (call : Call) → Every Settled (rule v call .refusals)
-all-settled v (by thread Channel) = plainly 1 _ refl & plainly 9 _ refl & nothing-more
-all-settled v (by thread (NewThread time)) = plainly 1 _ refl & plainly 6 _ refl & plainly 9 _ refl & nothing-more
-all-settled v (by thread (AttachInput channel)) = plainly 1 _ refl & plainly 2 _ refl & plainly 9 _ refl & nothing-more
-all-settled v (by thread (AttachOutput channel)) = plainly 1 _ refl & plainly 2 _ refl & plainly 9 _ refl & nothing-more
-all-settled v (by thread (Detach connection)) = plainly 1 _ refl & plainly 3 _ refl & nothing-more
-all-settled v (by thread End) = plainly 1 _ refl & nothing-more
-all-settled v (by thread (Set time)) = plainly 1 _ refl & plainly 6 _ refl & nothing-more
-all-settled v (by thread (Put connection timestamp ticket)) =
-    plainly 1 _ refl & plainly 3 _ refl & plainly 4 _ refl & plainly 5 _ refl & plainly 6 _ refl & plainly 7 _ refl & plainly 8 _ refl & nothing-more
-all-settled v (by thread (Get connection which)) = plainly 1 _ refl & plainly 3 _ refl & plainly 4 _ refl & plainly 5 _ refl & plainly 10 _ refl & nothing-more
-all-settled v (by thread (Consume connection timestamp)) = plainly 1 _ refl & plainly 3 _ refl & plainly 4 _ refl & plainly 5 _ refl & plainly 11 _ refl & nothing-more
-all-settled v (by thread (ConsumeUntil connection timestamp)) = plainly 1 _ refl & plainly 3 _ refl & plainly 4 _ refl & plainly 5 _ refl & nothing-more
+all-settled v (by thread Channel) = search settled depth 12
+all-settled v (by thread (NewThread time)) = search settled depth 12
+all-settled v (by thread (AttachInput channel)) = search settled depth 12
+all-settled v (by thread (AttachOutput channel)) = search settled depth 12
+all-settled v (by thread (Detach connection)) = search settled depth 12
+all-settled v (by thread End) = search settled depth 12
+all-settled v (by thread (Set time)) = search settled depth 12
+all-settled v (by thread (Put connection timestamp ticket)) = search settled depth 12
+all-settled v (by thread (Get connection which)) = search settled depth 12
+all-settled v (by thread (Consume connection timestamp)) = search settled depth 12
+all-settled v (by thread (ConsumeUntil connection timestamp)) = search settled depth 12
 all-settled v (sweep bound slice) = counted v bound slice & nothing-more
 
 refuses-one : (rs : List Refusal) → Every Settled rs → (c v t b w u : ℕ) → Refuses rs c v t → Refuses rs b w u → (c ≡ b) × (v ≡ w) × (t ≡ u)

@@ -1,5 +1,5 @@
 -- Every call is answered: each refusal can be decided, and where none is the case there is an outcome that the call leads to. Assumes nothing.
-use Rattle.rules.proofs.Basis.{_≡_, _∙_, refl, ap, subst, false, Bool-discrete, List, [], _∷_, _⊎_, inl, inr, ⊎-elim, by-cases, Dec·not, Dec·not-not, Option, none, some, Option-discrete, ℕ, _<_, decLt, decLe, ℕ-discrete, map-dec, arith, length, Unseen, Open, Which, Earliest, Latest}
+use Rattle.rules.proofs.Basis.{_≡_, _≢_, _∙_, refl, ap, subst, false, Bool-discrete, List, [], _∷_, _⊎_, inl, inr, ⊎-elim, by-cases, Dec·not, Dec·not-not, Option, none, some, Option-discrete, ℕ, _<_, decLt, decLe, ℕ-discrete, map-dec, arith, length, Unseen, Open, Which, Earliest, Latest}
 use Rattle.rules.proofs.Basis.{Named, Channel, NewThread, AttachInput, AttachOutput, Detach, End, Set, Put, Get, Consume, ConsumeUntil, Bound, Weak, Strong, Call, by, sweep, sliceOf}
 use Rattle.calls.specs.Questions.{Question, visible-time, weak-bound, strong-bound, state-of, items-present}
 use Rattle.rules.specs.Claims.{EveryCallAnswered, EveryQuestionAnswered, ViewInOrder}
@@ -95,35 +95,37 @@ module _ (v : View) (o : ViewInOrder v) (items : List Item) (those : Listed v ev
       by-cases (decLt (length slice) (length low)) (λ short. inl (length low, 0, (time, low, is, listed, short, refl, refl)))
       (λ long. inr (λ value nought (time′, low′, is′, listed′, short, a, b). omega (arith, ap length (below-one v bound time time′ low low′ is is′ listed listed′ .1))))
 
-  living-is : (thread : ℕ) → Settles (no-thread v thread)
-  living-is thread = plain 1 (is-none (v .thread thread))
+  -- the places of the three tables
+  threads-is : (n : ℕ) → Dec (FreeThread v n)
+  threads-is n = is-none (v .thread n)
 
-  own-is : (thread connection : ℕ) → Settles (not-its-own v thread connection)
-  own-is thread connection = plain 3 (Dec·not (some-is thread (owner (v .connection connection))))
+  channels-is : (n : ℕ) → Dec (FreeChannel v n)
+  channels-is n = Bool-discrete (v .channel n) false
 
-  attach-settles : (thread channel : ℕ) → Every Settles (no-thread v thread ∷ no-channel v channel ∷ table-full 32 (FreeConnection v) ∷ [])
-  attach-settles thread channel =
-      living-is thread & plain 2 (Bool-discrete (v .channel channel) false) & plain 9 (free-is 32 _ (λ n. is-unused (v .connection n))) & nothing-more
+  connections-is : (n : ℕ) → Dec (FreeConnection v n)
+  connections-is n = is-unused (v .connection n)
+
+  own-is : (thread connection : ℕ) → Dec (owner (v .connection connection) ≢ some thread)
+  own-is thread connection = Dec·not (some-is thread (owner (v .connection connection)))
+
+  open-is : (connection timestamp : ℕ) → Dec (stateOn (v .connection connection) timestamp ≢ Open)
+  open-is connection timestamp = Dec·not (state-is Open (stateOn (v .connection connection) timestamp))
+
+  -- how each refusal is decided; one that compares numbers needs no word here
+  ruleset decisions = (_&_, nothing-more, plain, is-none, Bool-discrete, decLe, decLt, ℕ-discrete, free-is, threads-is, channels-is, connections-is, own-is, early-is, taken-is, full-is, named-is, lacks-is, open-is)
 
   settles : (call : Call) → Every Settles (rule v call .refusals)
-  settles (by thread Channel) = living-is thread & plain 9 (free-is 8 _ (λ n. Bool-discrete (v .channel n) false)) & nothing-more
-  settles (by thread (NewThread time)) = living-is thread & plain 6 (early-is thread time) & plain 9 (free-is 16 _ (λ n. is-none (v .thread n))) & nothing-more
-  settles (by thread (AttachInput channel)) = attach-settles thread channel
-  settles (by thread (AttachOutput channel)) = attach-settles thread channel
-  settles (by thread (Detach connection)) = living-is thread & own-is thread connection & nothing-more
-  settles (by thread End) = living-is thread & nothing-more
-  settles (by thread (Set time)) = living-is thread & plain 6 (early-is thread time) & nothing-more
-  settles (by thread (Put connection timestamp ticket)) =
-      living-is thread & own-is thread connection & plain 4 (is-none (outputTo (v .connection connection))) & plain 5 (decLe never timestamp)
-      & plain 6 (early-is thread timestamp) & plain 7 (taken-is connection timestamp) & plain 8 full-is & nothing-more
-  settles (by thread (Get connection which)) =
-      living-is thread & own-is thread connection & plain 4 (is-none (inputFrom (v .connection connection))) & plain 5 (named-is which)
-      & plain 10 (lacks-is connection which) & nothing-more
-  settles (by thread (Consume connection timestamp)) =
-      living-is thread & own-is thread connection & plain 4 (is-none (inputFrom (v .connection connection))) & plain 5 (decLe never timestamp)
-      & plain 11 (Dec·not (state-is Open (stateOn (v .connection connection) timestamp))) & nothing-more
-  settles (by thread (ConsumeUntil connection timestamp)) =
-      living-is thread & own-is thread connection & plain 4 (is-none (inputFrom (v .connection connection))) & plain 5 (decLe never timestamp) & nothing-more
+  settles (by thread Channel) = search decisions depth 12
+  settles (by thread (NewThread time)) = search decisions depth 12
+  settles (by thread (AttachInput channel)) = search decisions depth 12
+  settles (by thread (AttachOutput channel)) = search decisions depth 12
+  settles (by thread (Detach connection)) = search decisions depth 12
+  settles (by thread End) = search decisions depth 12
+  settles (by thread (Set time)) = search decisions depth 12
+  settles (by thread (Put connection timestamp ticket)) = search decisions depth 12
+  settles (by thread (Get connection which)) = search decisions depth 12
+  settles (by thread (Consume connection timestamp)) = search decisions depth 12
+  settles (by thread (ConsumeUntil connection timestamp)) = search decisions depth 12
   settles (sweep bound slice) = short-settles bound slice & nothing-more
 
   -- ---- and where none is the case the call is accepted
@@ -162,11 +164,10 @@ module _ (v : View) (o : ViewInOrder v) (items : List Item) (those : Listed v ev
   -- ---- and so is a question
 
   question-settles : (question : Question) → Every Settles (askedOf v question .refusals)
-  question-settles (visible-time thread) = living-is thread & nothing-more
+  question-settles (visible-time thread) = search decisions
   question-settles weak-bound = nothing-more
   question-settles strong-bound = nothing-more
-  question-settles (state-of connection timestamp) =
-      plain 3 (is-unused (v .connection connection)) & plain 4 (is-none (inputFrom (v .connection connection))) & plain 5 (decLe never timestamp) & nothing-more
+  question-settles (state-of connection timestamp) = search decisions depth 12
   question-settles items-present = nothing-more
 
   tells : (question : Question) → (value time : ℕ) × askedOf v question .Tells value time
