@@ -1,11 +1,12 @@
 -- The checks of each call agree with the refusals that the view names. Assumes nothing.
 use Rattle.obeys.proofs.Basis.{_∙_, _≡_, ap, refl, subst, sym, false, true, _⊎_, inl, inr, ⊎-elim, Option·none-ne-some, Option·some-injective, none, List, _<_, _≤_, ℕ, arith, eqb, ltb, length, eq-eqb, leb-false, leb-true}
-use Rattle.obeys.proofs.Basis.{lt-ltb, ltb-false, ltb-true, count, has, lowestFree, count-ext, count-le, free-below, free-lacks, Call, by, sweep, isOpen, Strong, Weak, AttachInput, AttachOutput, Channel, Consume}
-use Rattle.obeys.proofs.Basis.{ConsumeUntil, Detach, End, Get, NewThread, Put, Set, State, Which, Earliest, Latest, Named, inward, never, outward, Found, At, Nothing, bool-cases, true-not-false, placeOf, state}
-use Rattle.obeys.proofs.Basis.{connectionAt, inUse, isConnection, isInput, isLiving, used-below, isBelow, itemsBelow, channel-exists, checks, connection-goes, connection-owned, isFound, item-fits, item-found, item-open}
+use Rattle.obeys.proofs.Basis.{ltb-false, ltb-true, count, has, lowestFree, count-le, free-below, free-lacks, Call, by, sweep, isOpen, Strong, Weak, AttachInput, AttachOutput, Channel, Consume}
+use Rattle.obeys.proofs.Basis.{ConsumeUntil, Detach, End, Get, NewThread, Put, Set, State, Which, Earliest, Latest, Named, inward, never, outward, Found, At, Nothing, true-not-false, placeOf, state}
+use Rattle.obeys.proofs.Basis.{connectionAt, inUse, isConnection, isInput, isLiving, used-below, itemsBelow, channel-exists, checks, connection-goes, connection-owned, isFound, item-fits, item-found, item-open}
 use Rattle.obeys.proofs.Basis.{place-free, slice-long, soughtBy, thread-lives, time-visible, timestamp-absent, timestamp-given, which-given, connectionsOf, itemsOf, threadsOf, strongBound, visibleTime}
 use Rattle.obeys.proofs.Basis.{weakBound, Desk, Connection, FreeChannel, FreeConnection, FreeThread, Listed, Lowest, desk-full, inputFrom, named-never, no-channel, no-input, no-output, no-thread, no-timestamp, not-its-own}
 use Rattle.obeys.proofs.Basis.{not-open, nothing-unseen, outputTo, rule, slice-short, stateOn, table-full, taken, too-early, unused, DeskInOrder, viewOf}
+use Rattle.rules.specs.Rules as Rules
 use Rattle.rules.proofs.OneList.{listed-one}
 use Rattle.obeys.proofs.Chosen.{place-found}
 use Rattle.obeys.proofs.Words.{in-use, in-use-has}
@@ -13,7 +14,7 @@ use Rattle.obeys.proofs.Bounds.{visible, weak, strong}
 use Rattle.obeys.proofs.Found.{takes, takes-none}
 use Rattle.obeys.proofs.Folds.{smallest-one}
 use Rattle.obeys.proofs.Seen.{is-open}
-use Rattle.obeys.proofs.Listed.{below, listed, items-below-at}
+use Rattle.obeys.proofs.Listed.{below, listed, present, present-listed}
 use Rattle.obeys.proofs.Lookup.{lives-view, dead-view, unused-view, owned-view, view-owned, input-view, holds-of, item-view, no-item-view, owned-used, used-reads, writes-view, used-not-free}
 use Rattle.obeys.proofs.Frame.{Matches, Agree, plain, check}
 
@@ -60,15 +61,6 @@ module _ (d : Desk) (o : DeskInOrder d) where
   other-way connection used =
       ⊎-elim (λ e. inl (eq-eqb _ inward e)) (λ e. inr (eq-eqb _ outward e)) (o .attached connection (in-use-has (d .attached) connection 32 used) .direction)
 
-  -- ---- the number of items
-
-  pub counted : count (itemsBelow (itemsOf d) never) ≡ count (d .present)
-  unfolding count isBelow
-  counted = count-ext _ _ 64 (λ place inside. items-below-at (itemsOf d) never inside ∙
-      bool-cases (has (d .present) place)
-      (λ e. rw e (lt-ltb _ never (o .timestamps place e)))
-      (λ e. rw e))
-
   -- ---- check by check
 
   not-found : (found : Found) → isFound found ≡ false → found ≡ Nothing
@@ -98,13 +90,14 @@ module _ (d : Desk) (o : DeskInOrder d) where
       (λ e. ⊎-elim (λ reads. absurd (true-not-false reads e)) (λ writes. ap inputFrom (writes-view d connection used writes)) (other-way connection used))
       (λ e case. Option·none-ne-some _ (sym case ∙ ap inputFrom (input-view d connection (used-reads d connection used e))))
 
-  pub agree-timestamp : (timestamp : ℕ) → Matches (timestamp-given timestamp) (no-timestamp timestamp)
-  agree-timestamp timestamp = plain _ 5 _ (ltb-false timestamp never) (λ e past. omega (arith, ltb-true timestamp never e))
+  -- 5 is one of these
+  pub agree-below : (code number bound : ℕ) → Matches (needs (ltb number bound) (refusal code)) (refuse code (bound ≤ number))
+  agree-below code number bound = plain _ code _ (ltb-false number bound) (λ e past. omega (arith, ltb-true number bound e))
 
   agree-which : (which : Which) → Matches (which-given which) (named-never which)
   agree-which Earliest = plain true 5 _ (λ e. absurd (true-not-false {b = true} refl e)) (λ e none. none)
   agree-which Latest = plain true 5 _ (λ e. absurd (true-not-false {b = true} refl e)) (λ e none. none)
-  agree-which (Named timestamp) = agree-timestamp timestamp
+  agree-which (Named timestamp) = agree-below 5 timestamp never
 
   agree-visible : (thread time : ℕ) → isLiving (threadsOf d) thread ≡ true → Matches (time-visible d thread time) (too-early (viewOf d) thread time)
   agree-visible thread time lives =
@@ -131,9 +124,9 @@ module _ (d : Desk) (o : DeskInOrder d) where
       plain _ 8 _
       (λ e. let many : 64 ≤ count (d .present) = ltb-false (count (d .present)) 64 e in
       let most : count (d .present) ≤ 64 = count-le (has (d .present)) 64 in
-      (below d o never .items, listed d o never, omega (arith, below d o never .counts, counted)))
-      (λ e (items, those, full). let same : length items ≡ length (below d o never .items) = ap length (listed-one those (listed d o never)) in
-      omega (arith, below d o never .counts, counted, ltb-true (count (d .present)) 64 e))
+      (present d o .items, present-listed d o, omega (arith, present d o .counts)))
+      (λ e (items, those, full). let same : length items ≡ length (present d o .items) = ap length (listed-one those (present-listed d o)) in
+      omega (arith, present d o .counts, ltb-true (count (d .present)) 64 e))
 
   agree-found : (connection : ℕ) (which : Which) → isInput (connectionsOf d) connection ≡ true
       → Matches (item-found d connection which) (nothing-unseen (viewOf d) connection which)
@@ -171,37 +164,25 @@ module _ (d : Desk) (o : DeskInOrder d) where
       refl,
     );
     holds = λ e value told (b, items, is-b, those, short, counts, zero).
-        let same : length items ≡ length (below d o bound .items) = ap length (listed-one (subst (λ (x : ℕ). Listed (viewOf d) x items) (one b is-b) those) (listed d o bound)) in
+        let same : length items ≡ length (below d o bound .items) = ap length (listed-one (subst (λ (x : ℕ). Listed (viewOf d) (Rules.below x) items) (one b is-b) those) (listed d o bound)) in
         omega (arith, below d o bound .counts, leb-true (count (itemsBelow (itemsOf d) bound)) (length slice) e);
   }
 
+  -- how each check agrees with its refusal, where those before it hold; one that compares two numbers needs no word here
+  ruleset agreements = (check, agree-below, agree-thread, agree-channel, agree-owned, agree-output, agree-input, agree-which, agree-visible, agree-absent, agree-fits, agree-found, agree-open, agree-free, threads-free, channels-free, connections-free, owned-used, used-reads)
+
   pub agree : (call : Call) → Agree (checks d call) (rule (viewOf d) call .refusals)
   unfolding checks
-  agree (by thread Channel) = check (agree-thread thread) (λ _. check (agree-free (channels-free d)) (λ _. tt))
-  agree (by thread (NewThread time)) =
-      check (agree-thread thread) (λ lives. check (agree-visible thread time lives) (λ _. check (agree-free (threads-free d)) (λ _. tt)))
-  agree (by thread (AttachInput channel)) =
-      check (agree-thread thread) (λ _. check (agree-channel channel) (λ _. check (agree-free (connections-free d)) (λ _. tt)))
-  agree (by thread (AttachOutput channel)) =
-      check (agree-thread thread) (λ _. check (agree-channel channel) (λ _. check (agree-free (connections-free d)) (λ _. tt)))
-  agree (by thread (Detach connection)) = check (agree-thread thread) (λ _. check (agree-owned thread connection) (λ _. tt))
-  agree (by thread End) = check (agree-thread thread) (λ _. tt)
-  agree (by thread (Set time)) = check (agree-thread thread) (λ lives. check (agree-visible thread time lives) (λ _. tt))
-  agree (by thread (Put connection timestamp ticket)) =
-      check (agree-thread thread) (λ lives. check (agree-owned thread connection) (λ owned.
-      let used = owned-used d connection thread owned in
-      check (agree-output connection used) (λ goes. check (agree-timestamp timestamp) (λ _. check (agree-visible thread timestamp lives) (λ _.
-      check (agree-absent connection timestamp used goes) (λ _. check agree-fits (λ _. tt)))))))
-  agree (by thread (Get connection which)) =
-      check (agree-thread thread) (λ _. check (agree-owned thread connection) (λ owned.
-      let used = owned-used d connection thread owned in
-      check (agree-input connection used) (λ goes. check (agree-which which) (λ _. check (agree-found connection which (used-reads d connection used goes)) (λ _. tt)))))
-  agree (by thread (Consume connection timestamp)) =
-      check (agree-thread thread) (λ _. check (agree-owned thread connection) (λ owned.
-      let used = owned-used d connection thread owned in
-      check (agree-input connection used) (λ goes. check (agree-timestamp timestamp) (λ _. check (agree-open connection timestamp (used-reads d connection used goes)) (λ _. tt)))))
-  agree (by thread (ConsumeUntil connection timestamp)) =
-      check (agree-thread thread) (λ _. check (agree-owned thread connection) (λ owned.
-      check (agree-input connection (owned-used d connection thread owned)) (λ _. check (agree-timestamp timestamp) (λ _. tt))))
+  agree (by thread Channel) = search agreements depth 16
+  agree (by thread (NewThread time)) = search agreements depth 16
+  agree (by thread (AttachInput channel)) = search agreements depth 16
+  agree (by thread (AttachOutput channel)) = search agreements depth 16
+  agree (by thread (Detach connection)) = search agreements depth 16
+  agree (by thread End) = search agreements depth 16
+  agree (by thread (Set time)) = search agreements depth 16
+  agree (by thread (Put connection timestamp ticket)) = search agreements depth 16
+  agree (by thread (Get connection which)) = search agreements depth 16
+  agree (by thread (Consume connection timestamp)) = search agreements depth 16
+  agree (by thread (ConsumeUntil connection timestamp)) = search agreements depth 16
   agree (sweep Weak slice) = check (agree-slice _ (weakBound d) slice (weak d o) (λ b is. smallest-one is (weak d o))) (λ _. tt)
   agree (sweep Strong slice) = check (agree-slice _ (strongBound d) slice (strong d o) (λ b is. smallest-one is (strong d o))) (λ _. tt)

@@ -3,6 +3,7 @@ use Rattle.obeys.proofs.Basis.{_∙_, _≡_, ap, refl, sym, Bool, _&&_,
 use Rattle.obeys.proofs.Basis.{Consumed, cleared, raised, inward, noConnection, byName, stateOf, Row, and-both, bool-cases, true-not-false, placeOf, state, connectionAt, isConnection, isInput, itemAt, isBelow, itemsBelow}
 use Rattle.obeys.proofs.Basis.{sweptConnection, sweptConnections, sweptItems, getD-rowsOf, swept, connectionsOf, itemsOf, Desk, used-inside, Connection, consumedBelow, DeskInOrder, connectionOf, itemOf, viewOf}
 use Rattle.rules.specs.Rules as Rules
+use Rattle.rules.proofs.Leaving.{swept-at}
 use Rattle.obeys.proofs.Chosen.{place-found}
 use Rattle.obeys.proofs.Frame.{view-ext}
 use Rattle.obeys.proofs.Lookup.{used-view, unused-view, input-row, output-row, Holds, holds-of, same-place}
@@ -152,4 +153,4 @@ module _ (d : Desk) (o : DeskInOrder d) (bound : ℕ) (o′ : DeskInOrder (swept
 
   pub view-swept : viewOf e ≡ Rules.swept (viewOf d) bound
   unfolding viewOf swept
-  view-swept = view-ext (λ t. refl) (λ c. refl) swept-connection swept-items
+  view-swept = view-ext (λ t. refl) (λ c. refl) swept-connection swept-items ∙ sym (swept-at (viewOf d) bound)
