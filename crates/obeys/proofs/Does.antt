@@ -82,14 +82,13 @@ module _ (d : Desk) (o : DeskInOrder d) where
 
   -- ---- sweeps
 
-  sweeps : (Bound : ℕ → Type 0) (bound : ℕ) (slice : List ℕ) → Bound bound → DeskInOrder (Calls.swept d bound)
-      → leb (count (itemsBelow (itemsOf d) bound)) (length slice) ≡ true
+  sweeps : (Bound : ℕ → Type 0) (bound : ℕ) (slice : List ℕ) → Bound bound → leb (count (itemsBelow (itemsOf d) bound)) (length slice) ≡ true
       → sweepRow (viewOf d) Bound slice .Accepts
       (done (count (itemsBelow (itemsOf d) bound)) bound (viewOf (Calls.swept d bound)) (handedBack (d .items) (itemsBelow (itemsOf d) bound) slice))
   unfolding handedBack
-  sweeps Bound bound slice is o′ long =
+  sweeps Bound bound slice is long =
       let those = below d o bound in
-      (bound, those .items, is, listed d o bound, rw (those .counts, those .hands, long, view-swept d o bound o′))
+      (bound, those .items, is, listed d o bound, rw (those .counts, those .hands, long, view-swept d o bound))
 
   accepts : (call : Call) → Passable call → Pass (checks d call)
       → rule (viewOf d) call .Accepts (done (value d call) (time d call) (viewOf (effect d call)) (sliceAfter d call))
@@ -125,7 +124,7 @@ module _ (d : Desk) (o : DeskInOrder d) where
   accepts (by thread (ConsumeUntil connection timestamp)) fits p =
       quietly (by-row connection (owned-used d connection thread (p .1 .0)) _ (consumedBelow (suc timestamp))
       (rw (add-one timestamp) (row-raised (itemsOf d) (connectionAt (connectionsOf d) connection) (suc timestamp) (eqb-true _ inward (p .1 .1 .0)))))
-  accepts (sweep bound slice) fits p = sweeps (BoundOf (viewOf d) bound) (boundOf d bound) slice (bound-is d o bound) (in-order-effect d o (sweep bound slice) fits p) (p .0)
+  accepts (sweep bound slice) fits p = sweeps (BoundOf (viewOf d) bound) (boundOf d bound) slice (bound-is d o bound) (p .0)
 
   -- ---- a refused call leaves the slice
 
