@@ -1,11 +1,12 @@
 -- The checks of each call agree with the refusals that the view names. Assumes nothing.
 use Rattle.obeys.proofs.Basis.{_∙_, _≡_, ap, refl, subst, sym, false, true, _⊎_, inl, inr, ⊎-elim, Option·none-ne-some, Option·some-injective, none, List, _<_, _≤_, ℕ, arith, eqb, ltb, length, eq-eqb, leb-false, leb-true}
-use Rattle.obeys.proofs.Basis.{lt-ltb, ltb-false, ltb-true, count, has, lowestFree, count-ext, count-le, free-below, free-lacks, Call, by, sweep, isOpen, Strong, Weak, AttachInput, AttachOutput, Channel, Consume}
-use Rattle.obeys.proofs.Basis.{ConsumeUntil, Detach, End, Get, NewThread, Put, Set, State, Which, Earliest, Latest, Named, answered, inward, never, outward, Found, At, Nothing, bool-cases, true-not-false, placeOf, state}
-use Rattle.obeys.proofs.Basis.{connectionAt, inUse, isConnection, isInput, isLiving, used-below, isBelow, itemsBelow, channel-exists, checks, connection-goes, connection-owned, isFound, item-fits, item-found, item-open}
+use Rattle.obeys.proofs.Basis.{ltb-false, ltb-true, count, has, lowestFree, count-le, free-below, free-lacks, Call, by, sweep, isOpen, Strong, Weak, AttachInput, AttachOutput, Channel, Consume}
+use Rattle.obeys.proofs.Basis.{ConsumeUntil, Detach, End, Get, NewThread, Put, Set, State, Which, Earliest, Latest, Named, answered, inward, never, outward, Found, At, Nothing, true-not-false, placeOf, state}
+use Rattle.obeys.proofs.Basis.{connectionAt, inUse, isConnection, isInput, isLiving, used-below, itemsBelow, channel-exists, checks, connection-goes, connection-owned, isFound, item-fits, item-found, item-open}
 use Rattle.obeys.proofs.Basis.{place-free, slice-long, soughtBy, thread-lives, time, time-visible, timestamp-absent, timestamp-given, value, which-given, connectionsOf, itemsOf, threadsOf, strongBound, visibleTime}
 use Rattle.obeys.proofs.Basis.{weakBound, Desk, Connection, FreeChannel, FreeConnection, FreeThread, Listed, Lowest, desk-full, inputFrom, named-never, no-channel, no-input, no-output, no-thread, no-timestamp, not-its-own}
 use Rattle.obeys.proofs.Basis.{not-open, nothing-unseen, outputTo, rule, slice-short, stateOn, table-full, taken, too-early, unused, DeskInOrder, viewOf}
+use Rattle.rules.specs.Rules as Rules
 use Rattle.rules.proofs.OneList.{listed-one}
 use Rattle.obeys.proofs.Chosen.{place-found}
 use Rattle.obeys.proofs.Words.{in-use, in-use-has}
@@ -13,7 +14,7 @@ use Rattle.obeys.proofs.Bounds.{visible, weak, strong}
 use Rattle.obeys.proofs.Found.{takes, takes-none}
 use Rattle.obeys.proofs.Folds.{smallest-one}
 use Rattle.obeys.proofs.Seen.{is-open}
-use Rattle.obeys.proofs.Listed.{below, listed, items-below-at}
+use Rattle.obeys.proofs.Listed.{below, listed, present, present-listed}
 use Rattle.obeys.proofs.Lookup.{lives-view, dead-view, unused-view, owned-view, view-owned, input-view, holds-of, item-view, no-item-view, owned-used, used-reads, writes-view, used-not-free}
 use Rattle.obeys.proofs.Frame.{Matches, Agree, plain, check}
 
@@ -59,15 +60,6 @@ module _ (d : Desk) (o : DeskInOrder d) where
       → (eqb (connectionAt (connectionsOf d) connection .direction) inward ≡ true) ⊎ (eqb (connectionAt (connectionsOf d) connection .direction) outward ≡ true)
   other-way connection used =
       ⊎-elim (λ e. inl (eq-eqb _ inward e)) (λ e. inr (eq-eqb _ outward e)) (o .attached connection (in-use-has (d .attached) connection 32 used) .direction)
-
-  -- ---- the number of items
-
-  pub counted : count (itemsBelow (itemsOf d) never) ≡ count (d .present)
-  unfolding count isBelow
-  counted = count-ext _ _ 64 (λ place inside. items-below-at (itemsOf d) never inside ∙
-      bool-cases (has (d .present) place)
-      (λ e. rw e (lt-ltb _ never (o .timestamps place e)))
-      (λ e. rw e))
 
   -- ---- check by check
 
@@ -132,9 +124,9 @@ module _ (d : Desk) (o : DeskInOrder d) where
         plain _ 8 _ refl refl
         (λ e. let many : 64 ≤ count (d .present) = ltb-false (count (d .present)) 64 e in
         let most : count (d .present) ≤ 64 = count-le (has (d .present)) 64 in
-        (below d o never .items, listed d o never, omega (arith, below d o never .counts, counted)))
-        (λ e (items, those, full). let same : length items ≡ length (below d o never .items) = ap length (listed-one those (listed d o never)) in
-        omega (arith, below d o never .counts, counted, ltb-true (count (d .present)) 64 e))
+        (present d o .items, present-listed d o, omega (arith, present d o .counts)))
+        (λ e (items, those, full). let same : length items ≡ length (present d o .items) = ap length (listed-one those (present-listed d o)) in
+        omega (arith, present d o .counts, ltb-true (count (d .present)) 64 e))
 
     agree-found : (connection : ℕ) (which : Which) → isInput (connectionsOf d) connection ≡ true
         → Matches v t (item-found d connection which) (nothing-unseen (viewOf d) connection which)
@@ -173,7 +165,7 @@ module _ (d : Desk) (o : DeskInOrder d) where
       refl,
     );
     holds = λ e v t (b, items, is-b, those, short, counts, zero).
-        let same : length items ≡ length (below d o bound .items) = ap length (listed-one (subst (λ (x : ℕ). Listed (viewOf d) x items) (one b is-b) those) (listed d o bound)) in
+        let same : length items ≡ length (below d o bound .items) = ap length (listed-one (subst (λ (x : ℕ). Listed (viewOf d) (Rules.below x) items) (one b is-b) those) (listed d o bound)) in
         omega (arith, below d o bound .counts, leb-true (count (itemsBelow (itemsOf d) bound)) (length slice) e);
   }
 

@@ -1,5 +1,5 @@
 -- The names that the proofs share: of the library, of the crates below and of what is stated here. Assumes nothing.
-pub use mathlib.Core.Path.{_∙_, _≡_, ap, fun-ext, refl, subst, sym}
+pub use mathlib.Core.Path.{_∙_, _≡_, ap, ap₂, fun-ext, refl, subst, sym}
 pub use mathlib.Core.Bool.{Bool, _&&_, and-false, and-true, cond, false, false≢true, not, true}
 pub use mathlib.Core.Logic.{_↔_, _≢_, _⊎_, inl, inr, ⊎-elim}
 pub use mathlib.Core.Option.{Option, Option·none-ne-some, Option·some-injective, none, some}

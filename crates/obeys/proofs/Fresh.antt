@@ -1,5 +1,8 @@
--- The view of a fresh desk: thread 0 at time 0, and nothing else. Assumes nothing.
-use Rattle.obeys.proofs.Basis.{_≡_, refl, and-false, false, none, ℕ, ℕ-discrete, arith, ltb, ne-eqb, has, has-from, has-none, lowest-none, isItem, placeOf, inUse, fresh, itemsOf, freshView, StartsFresh, viewOf}
+-- The view of a fresh desk: thread 0 at time 0, and nothing else; so a desk starts as the rules say. Assumes nothing.
+use Rattle.obeys.proofs.Basis.{_≡_, refl, subst, sym, and-false, false, none, ℕ, ℕ-discrete, arith, ltb, ne-eqb, has, has-from, has-none, lowest-none, isItem, placeOf, inUse, fresh, itemsOf, freshView, StartsFresh, viewOf}
+use Rattle.rules.specs.Runs.{Start}
+use Rattle.obeys.specs.Claims.{DeskStarts}
+use Rattle.obeys.specs.Reached.{fresh-desk}
 use Rattle.obeys.proofs.Frame.{view-ext}
 use Rattle.obeys.proofs.Lookup.{dead-view, unused-view}
 
@@ -36,3 +39,6 @@ fresh-connection k = unused-view fresh k (none-used k 32)
 
 pub starts-fresh : StartsFresh
 starts-fresh = view-ext fresh-thread fresh-channel fresh-connection fresh-item
+
+pub desk-starts : DeskStarts
+desk-starts d fresh-desk = subst Start (sym starts-fresh) Start.fresh

@@ -1,8 +1,10 @@
--- The tickets that a sweep hands back are those of the present items below its bound, in line. Assumes nothing.
-use Rattle.obeys.proofs.Basis.{_∙_, _≡_, ap, refl, subst, sym, false, true, _↔_, inl, inr, ⊎-elim, List, [], _∷_, _<_, _≤_, suc, zero, ℕ, ℕ-discrete, le-refl, arith, eqb, ltb, getD, length, eq-eqb, eqb-false, eqb-true}
+-- The tickets of the places in a word, one after the other, are those of the present items of a set of pairs in line, where the word has the places of
+-- that set: so for those below a bound, and for all. Assumes nothing.
+use Rattle.obeys.proofs.Basis.{_∙_, _≡_, ap, ap₂, refl, subst, sym, false, true, _↔_, inl, inr, ⊎-elim, List, [], _∷_, _<_, _≤_, suc, zero, ℕ, ℕ-discrete, le-refl, arith, eqb, ltb, getD, length, eq-eqb, eqb-false, eqb-true}
 use Rattle.obeys.proofs.Basis.{le-ltb, lt-ltb, ltb-false, ltb-true, ne-eqb, count, has, without, count-ext, count-none, count-without, has-none, has-wordOf, has-wordOf-in, without-other, before, noItem, Found, At, Nothing}
 use Rattle.obeys.proofs.Basis.{Item, and-both, and-left, and-right, bool-cases, Table, isPresent, itemAt, firstOf, ticketsInLine, isBelow, itemsBelow, itemsOf, Desk, Before, InLine, IsPresent, Listed, _∈_, tickets, DeskInOrder, viewOf}
 use Rattle.rules.specs.Rules as Rules
+use Rattle.rules.specs.Rules.{Pairs}
 use Rattle.obeys.proofs.Words.{without-apart, without-was}
 use Rattle.obeys.proofs.Lookup.{item-view, view-item}
 use Rattle.obeys.proofs.Chosen.{chosen-is}
@@ -127,40 +129,63 @@ line rows (suc n) places counted one-each =
       );
     }
 
--- ---- the items below a bound
+-- ---- the present items of a set of pairs, where a word has their places
 
-pub items-below-at : (items : Table Item) (bound : ℕ) {place : ℕ} → place < 64 → has (itemsBelow items bound) place ≡ isBelow items bound place
-unfolding itemsBelow
-items-below-at items bound inside = has-wordOf-in (isBelow items bound) inside
+abbrev pub PlacesOf : Desk → Pairs → ℕ → Type 0
+PlacesOf d among places = (place : ℕ) → (has places place ≡ true)
+    ↔ ((place < 64) × (isPresent (itemsOf d) place ≡ true) × (among (itemAt (itemsOf d) place .channel) (itemAt (itemsOf d) place .timestamp) ≡ true))
 
-module _ (d : Desk) (o : DeskInOrder d) (bound : ℕ) where
-  abbrev gone : ℕ
-  gone = itemsBelow (itemsOf d) bound
+module _ (d : Desk) (o : DeskInOrder d) (among : Pairs) (places : ℕ) (are : PlacesOf d among places) where
+  pub those : Line (d .items) (count places) places
+  those = line (d .items) (count places) places refl (λ place other held also. o .one-item-a-pair place other (are place .0 held .1) (are other .0 also .1))
 
-  gone-below : (place : ℕ) → has gone place ≡ true → (isPresent (itemsOf d) place ≡ true) × (itemAt (itemsOf d) place .timestamp < bound)
-  unfolding itemsBelow isBelow
-  gone-below place held =
-      let left = and-right (ltb place 64) _ (sym (has-wordOf (isBelow (itemsOf d) bound) 64 place) ∙ held) in
-      (and-left (isPresent (itemsOf d) place) _ left, ltb-true _ bound (and-right (isPresent (itemsOf d) place) _ left))
-
-  pub below : Line (d .items) (count gone) gone
-  below = line (d .items) (count gone) gone refl (λ place other held also. o .one-item-a-pair place other (gone-below place held .0) (gone-below other also .0))
-
-  pub listed : Listed (viewOf d) bound (below .items)
-  unfolding isBelow
-  listed = record {
-    in-line = below .in-line;
+  pub those-listed : Listed (viewOf d) among (those .items)
+  those-listed = record {
+    in-line = those .in-line;
     exactly = λ item. (
-      λ in-it. (let (place, inside, held, is) = below .exactly item .0 in-it in
-          let (there, early) = gone-below place held in
-          subst (λ (l : Rules.Item). IsPresent (viewOf d) l × (l .timestamp < bound)) is
-          (item-view d o {place = place} (record { inside = inside; there = there; channel-is = refl; timestamp-is = refl }), early)),
-      λ (seen, early). (let (place, h, ticket) = view-item d o (item .channel) (item .timestamp) (item .ticket) seen in
-          below .exactly item .1 (
+      λ in-it. (let (place, inside, held, is) = those .exactly item .0 in-it in
+          let (near, there, chosen) = are place .0 held in
+          subst (λ (l : Rules.Item). IsPresent (viewOf d) l × (among (l .channel) (l .timestamp) ≡ true)) is
+          (item-view d o {place = place} (record { inside = inside; there = there; channel-is = refl; timestamp-is = refl }), chosen)),
+      λ (seen, chosen). (let (place, h, ticket) = view-item d o (item .channel) (item .timestamp) (item .ticket) seen in
+          those .exactly item .1 (
             place,
             h .inside,
-            items-below-at (itemsOf d) bound (h .inside) ∙ and-both (h .there) (lt-ltb _ bound (omega (arith, h .timestamp-is))),
+            are place .1 (h .inside, h .there, ap₂ among (h .channel-is) (h .timestamp-is) ∙ chosen),
             λ i. record { channel = h .channel-is i; timestamp = h .timestamp-is i; ticket = ticket i },
           )),
     );
   }
+
+-- ---- those below a bound, and all
+
+items-below-at : (items : Table Item) (bound : ℕ) {place : ℕ} → place < 64 → has (itemsBelow items bound) place ≡ isBelow items bound place
+unfolding itemsBelow
+items-below-at items bound inside = has-wordOf-in (isBelow items bound) inside
+
+pub below-places : (d : Desk) (bound : ℕ) → PlacesOf d (Rules.below bound) (itemsBelow (itemsOf d) bound)
+unfolding itemsBelow isBelow
+below-places d bound place = (
+  λ held. (let inside-low = sym (has-wordOf (isBelow (itemsOf d) bound) 64 place) ∙ held in
+      let low = and-right (ltb place 64) _ inside-low in
+      (ltb-true place 64 (and-left (ltb place 64) _ inside-low), and-left (isPresent (itemsOf d) place) _ low, and-right (isPresent (itemsOf d) place) _ low)),
+  λ (inside, there, low). items-below-at (itemsOf d) bound inside ∙ and-both there low,
+)
+
+present-places : (d : Desk) → DeskInOrder d → PlacesOf d Rules.everything (d .present)
+present-places d o place = (λ there. (o .items .inside place there, there, refl), λ (inside, there, any). there)
+
+module _ (d : Desk) (o : DeskInOrder d) where
+  pub below : (bound : ℕ) → Line (d .items) (count (itemsBelow (itemsOf d) bound)) (itemsBelow (itemsOf d) bound)
+  below bound = those d o (Rules.below bound) (itemsBelow (itemsOf d) bound) (below-places d bound)
+
+  pub listed : (bound : ℕ) → Listed (viewOf d) (Rules.below bound) (below bound .items)
+  unfolding below
+  listed bound = those-listed d o (Rules.below bound) (itemsBelow (itemsOf d) bound) (below-places d bound)
+
+  pub present : Line (d .items) (count (d .present)) (d .present)
+  present = those d o Rules.everything (d .present) (present-places d o)
+
+  pub present-listed : Listed (viewOf d) Rules.everything (present .items)
+  unfolding present
+  present-listed = those-listed d o Rules.everything (d .present) (present-places d o)

@@ -1,26 +1,26 @@
 -- The desk's replies are those of the rules, and what holds of every run under the rules holds of the desk. Assumes nothing.
-use Rattle.obeys.proofs.Basis.{subst, List, [], _∷_, AllPassable, Call, sweep, PassableRequests, Request, ask, items-present, make, Bound, Strong, Weak, never, ℕ, boundOf, after, step, fresh, Desk, View, freshView, DeskAccountsBalance, DeskBounds}
+use Rattle.obeys.proofs.Basis.{_≡_, _∙_, ap, subst, inl, inr, length, List, [], _∷_, AllPassable, Call, sweep, PassableRequests, Request, ask, items-present, make, Bound, Strong, Weak, never, ℕ, _+_, boundOf, after, step, fresh, Desk, View, freshView, DeskAccountsBalance, DeskBounds}
 use Rattle.obeys.proofs.Basis.{DeskBoundsNeverFall, DeskGives, DeskGivesNoOther, DeskSweepsExactly, ReachedReachable, Reached, deskAfter, outcomeOf, repliesOf, viewOf}
 use Rattle.calls.specs.Calls.{put}
-use Rattle.rules.specs.Rules.{Item}
-use Rattle.rules.specs.Runs.{Run, stop, next, Gives}
+use Rattle.rules.specs.Rules.{everything, Item, Listed, Says}
+use Rattle.rules.specs.Runs.{Run, stop, next, Gives, acceptedPuts}
 use Rattle.rules.specs.Claims.{HandsBack, PutBy}
 use Rattle.rules.proofs.One.{gives-once}
 use Rattle.rules.proofs.Bounds.{bounds-never-fall}
-use Rattle.rules.proofs.Accounts.{accounts-balance}
+use Rattle.rules.proofs.Accounts.{accounts-balance, fresh-accounts-balance}
 use Rattle.rules.proofs.Swept.{swept-exactly-the-unreachable, weakly-swept-only-the-unreachable}
 use Rattle.rules.proofs.Ways.{bound-one}
 use Rattle.rules.proofs.Deserted.{never-without-threads, refused-without-threads}
 use Rattle.rules.proofs.Seen.{seen-moves-forward}
 use Rattle.rules.proofs.Twice.{no-pair-twice}
-use Rattle.obeys.specs.Claims.{DeskHandsBack, PutAccepted, DeskSweepsOnly, DeskNeverWithoutThreads, DeskRefusedWithoutThreads, DeskMovesForward, DeskNoPairTwice}
+use Rattle.obeys.specs.Claims.{DeskHandsBack, PutAccepted, DeskSweepsOnly, DeskNeverWithoutThreads, DeskRefusedWithoutThreads, DeskMovesForward, DeskNoPairTwice, FreshDeskAccountsBalance}
 use Rattle.obeys.proofs.Lookup.{dead-view}
-use Rattle.obeys.proofs.Reached.{reached-step, reached-after, fresh-reached}
+use Rattle.obeys.proofs.Reached.{reached-step, reached-after, start-reached, fresh-reached}
 use Rattle.obeys.proofs.Order.{every-desk-in-order}
 use Rattle.obeys.proofs.Bounds.{bound-is}
 use Rattle.obeys.proofs.Does.{desk-does}
 use Rattle.obeys.proofs.Said.{desk-says}
-use Rattle.obeys.proofs.Fresh.{starts-fresh}
+use Rattle.obeys.proofs.Fresh.{starts-fresh, desk-starts}
 
 -- ---- replies
 
@@ -49,9 +49,11 @@ calls-from d r [] all = stop
 calls-from d r (call ∷ calls) all = next call (outcomeOf d call) (all .0) (desk-does d r call (all .0)) (calls-from (step d call .desk) (reached-step d r call (all .0)) calls (all .1))
 
 pub reached-reachable : ReachedReachable
-reached-reachable d r =
-    subst (λ (v : View). Run v (viewOf d)) starts-fresh
-    (subst (λ (e : Desk). Run (viewOf fresh) (viewOf e)) (r .reaches) (calls-from fresh fresh-reached (r .calls) (r .passable)))
+reached-reachable d r = record {
+  start = viewOf (r .start);
+  starts = desk-starts (r .start) (r .starts);
+  run = subst (λ (e : Desk). Run (viewOf (r .start)) (viewOf e)) (r .reaches) (calls-from (r .start) (start-reached (r .start) (r .starts)) (r .calls) (r .passable));
+}
 
 -- ---- each claim in a line
 
@@ -128,7 +130,21 @@ requests-reached d r [] all = r
 requests-reached d r (make call ∷ requests) all = requests-reached (step d call .desk) (reached-step d r call (all .0)) requests (all .1)
 requests-reached d r (ask question ∷ requests) all = requests-reached d r requests all
 
+-- the items that a desk answers to have are listed
+own-items : {v : View} {code value time : ℕ} → Says v items-present code value time → (own : List Item) × Listed v everything own × (value ≡ length own)
+own-items (inl refused) = absurd refused
+own-items (inr (clear, zero-is, (own, those, counted, nought))) = (own, those, counted)
+
 pub desk-accounts-balance : DeskAccountsBalance
-desk-accounts-balance requests all =
-    accounts-balance requests (repliesOf fresh requests) (viewOf (deskAfter fresh requests)) _ _ _ (fresh-gives requests all)
+desk-accounts-balance d starts requests all =
+    let r = start-reached d starts in
+    let e = deskAfter d requests in
+    let (own, those, counted) = own-items (desk-says d r items-present) in
+    ap (λ (n : ℕ). n + acceptedPuts requests (repliesOf d requests)) counted
+    ∙ accounts-balance (viewOf d) (viewOf e) (desk-starts d starts) own those requests (repliesOf d requests) _ _ _ (gives-from d r requests all)
+    (desk-says e (requests-reached d r requests all) items-present)
+
+pub fresh-desk-accounts-balance : FreshDeskAccountsBalance
+fresh-desk-accounts-balance requests all =
+    fresh-accounts-balance requests (repliesOf fresh requests) (viewOf (deskAfter fresh requests)) _ _ _ (fresh-gives requests all)
     (desk-says (deskAfter fresh requests) (requests-reached fresh fresh-reached requests all) items-present)

@@ -1,4 +1,4 @@
--- Every reached desk is in order: the fresh desk is, and each effect keeps it so. Assumes nothing.
+-- Every reached desk is in order: a start is, and each effect keeps it so. Assumes nothing.
 pub mod Tables
 pub mod Rows
 pub mod Desks
@@ -7,6 +7,7 @@ use Rattle.obeys.proofs.Basis.{has-none, with-same, without-same, Call,
 use Rattle.obeys.proofs.Basis.{Which, inward, never, noConnection, noItem, noThread, outward, Row, Found, At, Nothing, Pass, and-left, and-right, true-not-false, isUnseenAt, lies, state, stateAt, connectionAt}
 use Rattle.obeys.proofs.Basis.{connectionPlaces, isConnection, owns, threadPlaces, adopted, attachedAs, boundOf, checks, effect, freeChannel, freeConnection, freeThread, isFound, becomesOpen, soughtBy, withConnection}
 use Rattle.obeys.proofs.Basis.{connectionsOf, fresh, itemsOf, visibleTime, Desk, fewer-free, owned-below, used-inside, ConnectionInOrder, EveryDeskInOrder, DeskInOrder, Tidy}
+use Rattle.obeys.specs.Reached.{DeskStart, fresh-desk}
 use Rattle.obeys.proofs.Reached.{step-keeps, reached-keeps}
 use Rattle.obeys.proofs.Words.{in-use-has, with-was, with-elsewhere, without-elsewhere, same-elsewhere}
 use Rattle.obeys.proofs.Chosen.{sought-found}
@@ -46,6 +47,9 @@ fresh-in-order = record {
   timestamps = λ place used. absurd (nothing place used);
   one-item-a-pair = λ place other used. absurd (nothing place used);
 }
+
+starts-in-order : (d : Desk) → DeskStart d → DeskInOrder d
+starts-in-order d fresh-desk = fresh-in-order
 
 -- ---- the effects
 
@@ -129,4 +133,4 @@ module _ (d : Desk) (o : DeskInOrder d) where
   in-order-effect (sweep bound slice) fits p = swept-in-order o (boundOf d bound) (bound-top bound)
 
 pub every-desk-in-order : EveryDeskInOrder
-every-desk-in-order = reached-keeps DeskInOrder fresh-in-order (λ d call o fits. step-keeps DeskInOrder d call o (in-order-effect d o call fits))
+every-desk-in-order = reached-keeps DeskInOrder starts-in-order (λ d call o fits. step-keeps DeskInOrder d call o (in-order-effect d o call fits))

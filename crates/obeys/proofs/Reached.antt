@@ -1,6 +1,7 @@
 -- A step by its checks; a call leads from a reached desk to a reached desk, so a law of every reached desk needs one law of a step. Assumes nothing.
 use Rattle.obeys.proofs.Basis.{_∙_, _≡_, ap, refl, subst, List, [], _++_, _∷_, eqb, eqb-true, AllPassable, Call, Passable, by, sweep, AttachInput, AttachOutput, Channel, Consume, ConsumeUntil, Detach, End, Get, NewThread}
 use Rattle.obeys.proofs.Basis.{Put, Set, answer, answered, refusal, Codes, Pass, bool-cases, pass-refusal, passed, after, checks, effect, outcome, step, time, value, fresh, Desk, Reached}
+use Rattle.obeys.specs.Reached.{DeskStart, fresh-desk}
 
 -- ---- a step
 
@@ -39,10 +40,10 @@ unfolding after
 after-keeps P kept d [] all start = start
 after-keeps P kept d (call ∷ calls) all start = after-keeps P kept (step d call .desk) calls (all .1) (kept d call start (all .0))
 
--- what holds of the fresh desk, and is kept by every call, holds of every reached desk
-pub reached-keeps : (P : Desk → Type 0) → P fresh → ((d : Desk) (call : Call) → P d → Passable call → P (step d call .desk))
+-- what holds of every start, and is kept by every call, holds of every reached desk
+pub reached-keeps : (P : Desk → Type 0) → ((d : Desk) → DeskStart d → P d) → ((d : Desk) (call : Call) → P d → Passable call → P (step d call .desk))
     → (d : Desk) → Reached d → P d
-reached-keeps P start kept d r = subst P (r .reaches) (after-keeps P kept fresh (r .calls) (r .passable) start)
+reached-keeps P start kept d r = subst P (r .reaches) (after-keeps P kept (r .start) (r .calls) (r .passable) (start (r .start) (r .starts)))
 
 -- ---- one call more
 
@@ -55,15 +56,20 @@ passable-more : (calls more : List Call) → AllPassable calls → AllPassable m
 passable-more [] more all all-more = all-more
 passable-more (call ∷ calls) more all all-more = (all .0, passable-more calls more (all .1) all-more)
 
-pub fresh-reached : Reached fresh
+pub start-reached : (d : Desk) → DeskStart d → Reached d
 unfolding after
-fresh-reached = record { calls = []; passable = tt; reaches = refl }
+start-reached d starts = record { start = d; starts = starts; calls = []; passable = tt; reaches = refl }
+
+pub fresh-reached : Reached fresh
+fresh-reached = start-reached fresh fresh-desk
 
 pub reached-after : (d : Desk) → Reached d → (calls : List Call) → AllPassable calls → Reached (after d calls)
 reached-after d r calls all = record {
+  start = r .start;
+  starts = r .starts;
   calls = r .calls ++ calls;
   passable = passable-more (r .calls) calls (r .passable) all;
-  reaches = after-more fresh (r .calls) calls ∙ ap (λ (e : Desk). after e calls) (r .reaches);
+  reaches = after-more (r .start) (r .calls) calls ∙ ap (λ (e : Desk). after e calls) (r .reaches);
 }
 
 pub reached-step : (d : Desk) → Reached d → (call : Call) → Passable call → Reached (step d call .desk)

@@ -1,37 +1,17 @@
 -- The view after items have left, by any set of pairs that these items are, and after marks are raised: a sweep is the one and then the other.
 -- Assumes nothing.
-use Rattle.obeys.proofs.Basis.{_∙_, _≡_, ap, refl, sym, Bool, and-true, cond, false, true, none, _<_, ℕ, eqb, leb, ltb, eqb-true, le-leb, leb-false, ltb-false, ltb-true, max, has, except-at, Absent}
-use Rattle.obeys.proofs.Basis.{Consumed, cleared, raised, inward, stateOf, List, getD, noConnection, connectionPlaces, inUse, changedConnections, Row, bool-cases, true-not-false, placeOf, state, connectionAt, isConnection, itemAt, isBelow, itemsBelow}
-use Rattle.obeys.proofs.Basis.{raisedInput, left, raisedTo, swept, connectionsOf, itemsOf, Desk, Connection, View, input, output, unused, consumedBelow, DeskInOrder, connectionOf, itemOf, viewOf}
+use Rattle.obeys.proofs.Basis.{_∙_, _≡_, ap, ap₂, refl, sym, Bool, and-true, cond, false, true, none, _<_, ℕ, eqb, leb, ltb, eqb-true, le-leb, leb-false, ltb-false, ltb-true, has, except-at, Absent}
+use Rattle.obeys.proofs.Basis.{Consumed, cleared, raised, inward, stateOf, List, getD, noConnection, connectionPlaces, inUse, changedConnections, Row, bool-cases, true-not-false, placeOf, state, connectionAt, isConnection, itemsBelow}
+use Rattle.obeys.proofs.Basis.{raisedInput, left, raisedTo, swept, connectionsOf, itemsOf, Desk, Connection, View, unused, consumedBelow, DeskInOrder, connectionOf, itemOf, viewOf}
 use Rattle.rules.specs.Rules as Rules
+use Rattle.rules.specs.Rules.{Pairs, forgetting}
 use Rattle.obeys.proofs.Chosen.{place-found}
 use Rattle.obeys.proofs.Frame.{view-ext}
 use Rattle.obeys.proofs.Lookup.{used-view, unused-view, input-row, output-row, Holds, holds-of, same-place}
 use Rattle.obeys.proofs.Rows.{input-seen, row-raised}
-use Rattle.obeys.proofs.Listed.{items-below-at}
+use Rattle.obeys.proofs.Listed.{PlacesOf, below-places}
 use Rattle.obeys.proofs.Order.Desks.{changed-row, item-stays, left-in-order}
-use Rattle.obeys.proofs.Words.{except-was, except-kept, except-stays}
-
--- ---- views
-
-abbrev Pairs : Type 0
-Pairs = (channel timestamp : ℕ) → Bool
-
-abbrev below : ℕ → Pairs
-below bound channel timestamp = ltb timestamp bound
-
-abbrev forgetting : Pairs → Connection → Connection
-forgetting gone unused = unused
-forgetting gone (output thread channel) = output thread channel
-forgetting gone (input thread channel mark seen) = input thread channel mark (λ timestamp. cond (gone channel timestamp) (cond (ltb timestamp mark) Consumed Absent) (seen timestamp))
-
-abbrev leftView : View → Pairs → View
-leftView v gone =
-    Rules.withItems (Rules.withConnections v (λ connection. forgetting gone (v .connection connection)))
-    (λ channel timestamp. cond (gone channel timestamp) none (v .item channel timestamp))
-
-abbrev raisedView : View → ℕ → View
-raisedView v bound = Rules.withConnections v (λ connection. consumedBelow bound (v .connection connection))
+use Rattle.obeys.proofs.Words.{not-then, except-was, except-kept, except-stays}
 
 -- ---- every connection's row changes by a rule
 
@@ -53,9 +33,8 @@ connection-changed d e rule change attached rows free looks k =
 
 -- ---- items leave
 
--- those in some places, which are the items of some pairs
-module _ (d : Desk) (o : DeskInOrder d) (gone : ℕ) (pairs : Pairs)
-    (exactly : (place : ℕ) → has (d .present) place ≡ true → pairs (itemAt (itemsOf d) place .channel) (itemAt (itemsOf d) place .timestamp) ≡ has gone place) where
+-- those of a set of pairs, whose places a word has
+module _ (d : Desk) (o : DeskInOrder d) (pairs : Pairs) (gone : ℕ) (are : PlacesOf d pairs gone) where
   abbrev e : Desk
   e = left d gone
 
@@ -64,7 +43,11 @@ module _ (d : Desk) (o : DeskInOrder d) (gone : ℕ) (pairs : Pairs)
 
   module _ {p channel timestamp : ℕ} where
     goes : Holds d o p channel timestamp → pairs channel timestamp ≡ has gone p
-    goes h = rw (← h .channel-is, ← h .timestamp-is) (exactly p (h .there))
+    goes h =
+        let here = ap₂ pairs (h .channel-is) (h .timestamp-is) in
+        bool-cases (pairs channel timestamp)
+        (λ leaves. leaves ∙ sym (are p .1 (h .inside, h .there, here ∙ leaves)))
+        (λ stays. stays ∙ sym (not-then (λ held. sym here ∙ are p .0 held .2) stays))
 
     holds-still : pairs channel timestamp ≡ false → Holds d o p channel timestamp → Holds e o′ p channel timestamp
     unfolding left
@@ -143,7 +126,7 @@ module _ (d : Desk) (o : DeskInOrder d) (gone : ℕ) (pairs : Pairs)
       ∙ sym (ap (forgetting pairs) (input-row (itemsOf d) row reads)))
       (λ writes. output-row (itemsOf e) (cleared row gone) writes ∙ sym (ap (forgetting pairs) (output-row (itemsOf d) row writes)))
 
-  pub view-left : viewOf (left d gone) ≡ leftView (viewOf d) pairs
+  pub view-left : viewOf (left d gone) ≡ Rules.left (viewOf d) pairs
   unfolding viewOf left
   view-left = view-ext (λ t. refl) (λ c. refl) (connection-changed d e (λ row. cleared row gone) (forgetting pairs) refl refl refl row-left) left-item
 
@@ -158,25 +141,14 @@ module _ (d : Desk) (bound : ℕ) where
       ∙ output-row (itemsOf d) row writes
       ∙ sym (ap (consumedBelow bound) (output-row (itemsOf d) row writes)))
 
-  pub view-raised : viewOf (raisedTo d bound) ≡ raisedView (viewOf d) bound
+  pub view-raised : viewOf (raisedTo d bound) ≡ Rules.raised (viewOf d) bound
   unfolding viewOf raisedTo
   view-raised = view-ext (λ t. refl) (λ c. refl) (connection-changed d (raisedTo d bound) (λ row. raisedInput row bound) (consumedBelow bound) refl refl refl row-raised-input) (λ c n. refl)
 
 -- ---- a sweep
 
-cond-again : {A : Type 0} (b : Bool) (x y z : A) → cond b x (cond b y z) ≡ cond b x z
-cond-again true x y z = refl
-cond-again false x y z = refl
-
-swept-connection : (bound : ℕ) (c : Connection) → consumedBelow bound (forgetting (below bound) c) ≡ consumedBelow bound c
-swept-connection bound unused = refl
-swept-connection bound (output t c) = refl
-swept-connection bound (input t c m s) = λ i. input t c (max m bound) (λ n. cond-again (ltb n bound) Consumed (cond (ltb n m) Consumed Absent) (s n) i)
-
 pub view-swept : (d : Desk) → DeskInOrder d → (bound : ℕ) → viewOf (swept d bound) ≡ Rules.swept (viewOf d) bound
-unfolding swept isBelow
+unfolding swept
 view-swept d o bound =
     view-raised (left d (itemsBelow (itemsOf d) bound)) bound
-    ∙ ap (λ (v : View). raisedView v bound) (view-left d o (itemsBelow (itemsOf d) bound) (below bound)
-    (λ place there. sym (items-below-at (itemsOf d) bound (o .items .inside place there) ∙ rw there)))
-    ∙ view-ext (λ t. refl) (λ c. refl) (λ k. swept-connection bound (viewOf d .connection k)) (λ c n. refl)
+    ∙ ap (λ (v : View). Rules.raised v bound) (view-left d o (Rules.below bound) (itemsBelow (itemsOf d) bound) (below-places d bound))

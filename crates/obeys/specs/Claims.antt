@@ -18,9 +18,9 @@ use Rattle.desk.specs.Desk.{threadsOf, fresh}
 use Rattle.desk.specs.Calls.{boundOf, step, after}
 use Rattle.desk.specs.Questions.{reply}
 use Rattle.rules.specs.Rules.{never, View, freshView, outputTo, inputFrom, BoundOf, Item, IsPresent, _∈_, InLine, Does, Says}
-use Rattle.rules.specs.Runs.{Reachable, CouldBeGot, Reply, Gives, acceptedPuts, ticketsBack}
+use Rattle.rules.specs.Runs.{Start, Reachable, CouldBeGot, Reply, Gives, acceptedPuts, ticketsBack}
 use Rattle.rules.specs.Claims.{Handed, Forward}
-use Rattle.obeys.specs.Reached.{Reached}
+use Rattle.obeys.specs.Reached.{DeskStart, Reached}
 use Rattle.obeys.specs.View.{viewOf, outcomeOf, repliesOf, deskAfter}
 
 -- ---- the desk does what the rules say
@@ -34,9 +34,13 @@ abbrev pub DeskSays : Type 0
 DeskSays = (d : Desk) → Reached d → (question : Question)
     → Says (viewOf d) question (reply d question .code) (reply d question .value) (reply d question .time)
 
--- the start: `starts-fresh`
+-- "A fresh desk has thread 0 with virtual time 0 and nothing else.": `starts-fresh`
 abbrev pub StartsFresh : Type 0
 StartsFresh = viewOf fresh ≡ freshView
+
+-- every start of a desk is a start of the rules: `desk-starts`
+abbrev pub DeskStarts : Type 0
+DeskStarts = (d : Desk) → DeskStart d → Start (viewOf d)
 
 -- and without a word of what is observed of a desk: over any calls and questions, the replies that the code gives are replies that the rules give:
 -- `desk-gives`; and the rules give no others: `desk-gives-no-other`
@@ -123,9 +127,16 @@ DeskNoPairTwice =
     → PutAccepted d channel thread connection timestamp ticket
     → PutAccepted (after (step d (put thread connection timestamp ticket) .desk) calls) channel thread′ connection′ timestamp ticket′ → ⊥
 
--- the accounts, from the code's own answers: `desk-accounts-balance`
+-- the accounts from any start, whose own items count as puts, from the code's own answers: `desk-accounts-balance`
 abbrev pub DeskAccountsBalance : Type 0
 DeskAccountsBalance =
+    (d : Desk) → DeskStart d → (requests : List Request) → PassableRequests requests
+    → reply d items-present .value + acceptedPuts requests (repliesOf d requests)
+    ≡ reply (deskAfter d requests) items-present .value + ticketsBack requests (repliesOf d requests)
+
+-- "Over any calls from a fresh desk, ..": `fresh-desk-accounts-balance`
+abbrev pub FreshDeskAccountsBalance : Type 0
+FreshDeskAccountsBalance =
     (requests : List Request) → PassableRequests requests
     → acceptedPuts requests (repliesOf fresh requests)
     ≡ reply (deskAfter fresh requests) items-present .value + ticketsBack requests (repliesOf fresh requests)

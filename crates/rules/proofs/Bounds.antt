@@ -5,8 +5,9 @@ use Rattle.rules.specs.Rules.{Connection, unused, output, input, View, K
 use Rattle.rules.specs.Runs.{Run}
 use Rattle.rules.proofs.Connections.{opens, Turn, Turned, ConnectionFitsIn, Allowed, Waits, alike, freed, rests, consumes, absent-done, writes, consumed-done, reads, comes, moves}
 use Rattle.rules.proofs.Laws.{smallest, either, exists-below, state-is, some-is, at-elim, below-elim}
+use Rattle.rules.proofs.Leaving.{left-at-least}
 use Rattle.rules.proofs.Order.{every-view-in-order, by-calls}
-use Rattle.rules.proofs.Ways.{Pending, at-least-bound, AtLeast, Kind, at-least-waits, at-least-allowed, waiting, bound-at-least, kind-turned, makes, sets, changes, ends, stocks, sweeps}
+use Rattle.rules.proofs.Ways.{Pending, at-least-bound, AtLeast, Kind, at-least-waits, at-least-allowed, waiting, bound-at-least, kind-turned, makes, sets, changes, ends, stocks, raises}
 
 -- ---- what a call brings about
 
@@ -41,7 +42,7 @@ kind-times v w (changes number new fits turned) time is = inl is
 kind-times v w (ends thread) time (t, is) =
     at-elim (λ s. s ≡ some time → IsTime v time ⊎ Allowed v time) (v .thread) thread none t (λ e q. absurd (Option·none-ne-some time q)) (λ ne q. inl (t, q)) is
 kind-times v w (stocks channel timestamp ticket exists early carried may lacks) time is = inl is
-kind-times v w (sweeps bound above) time is = inl is
+kind-times v w (raises bound top) time is = inl is
 
 -- ---- so a time that is at most all of which a bound is the smallest stays so over every call
 
@@ -55,7 +56,7 @@ at-least-kind bound v o a w kind =
     }
 
 pub at-least-calls : {v w : View} {least : ℕ} (bound : Bound) → Run v w → ViewInOrder v → AtLeast bound least v → AtLeast bound least w
-at-least-calls {v} {w} {least} bound = by-calls (AtLeast bound least) (at-least-kind bound)
+at-least-calls bound = by-calls (record { by-ways = at-least-kind bound; by-leaving = λ v o a gone may. left-at-least bound v a gone })
 
 pub bounds-never-fall : BoundsNeverFall
 bounds-never-fall v w run calls bound before now was is = at-least-bound bound (at-least-calls bound calls (every-view-in-order v run) (bound-at-least bound was)) is

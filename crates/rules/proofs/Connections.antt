@@ -1,7 +1,7 @@
 -- One connection: under every change what it sees is in order, and no state goes back. Assumes nothing.
-use Rattle.rules.proofs.Basis.{_≡_, _∙_, refl, sym, ap, subst, Bool, true, false, cond, _⊎_, ⊎-elim, _≢_, Option, none, some, Option·some-injective, ℕ, max, _≤_, _<_, arith, le-refl, eqb, ltb, eqb-false, eq-eqb, ne-eqb, lt-ltb, le-ltb, State, Absent, Unseen, Open, Consumed, stateNumber}
+use Rattle.rules.proofs.Basis.{_≡_, _∙_, refl, sym, ap, subst, Bool, true, false, cond, _⊎_, ⊎-elim, _≢_, Option, none, some, Option·some-injective, Option·none-ne-some, ℕ, max, _≤_, _<_, arith, le-refl, eqb, ltb, eqb-false, eq-eqb, ne-eqb, lt-ltb, le-ltb, State, Absent, Unseen, Open, Consumed, stateNumber}
 use Rattle.rules.specs.Claims.{ConnectionFits, Living, Sees}
-use Rattle.rules.specs.Rules.{never, Connection, unused, output, input, View, at, stateOn, seenAs, consumedBelow, noticed, noticing, firstSeen, freedFrom, VisibleTime, withItem, ended, owner}
+use Rattle.rules.specs.Rules.{never, Pairs, Connection, unused, output, input, View, at, stateOn, seenAs, consumedBelow, noticed, noticing, forgetting, firstSeen, freedFrom, VisibleTime, withItem, ended, left, owner}
 use Rattle.rules.proofs.Laws.{cond-elim, at-elim, below-elim, not-below, not-none, at-other, option-cases}
 
 -- UNSEEN or OPEN
@@ -42,14 +42,22 @@ module _ (items : ℕ → Option ℕ) (mark : ℕ) (seen : ℕ → State) (sees 
   }
 
   -- all below a bound is consumed
-  pub sees-raised : (now : ℕ → Option ℕ) (bound : ℕ) → ((timestamp : ℕ) → bound ≤ timestamp → now timestamp ≡ items timestamp)
-      → Sees now (max mark bound) (λ timestamp. cond (ltb timestamp bound) Consumed (seen timestamp))
-  sees-raised now bound same = record {
+  pub sees-raised : (bound : ℕ) → Sees items (max mark bound) (λ timestamp. cond (ltb timestamp bound) Consumed (seen timestamp))
+  sees-raised bound = record {
     below = λ t under. below-elim (λ s. s ≡ Consumed) t bound Consumed (seen t) (λ e. refl) (λ above. sees .below t (omega arith));
-    absent = λ t over gone. below-elim (λ s. s ≡ Absent) t bound Consumed (seen t)
-        (λ under. absurd (omega arith)) (λ above. sees .absent t (omega arith) (sym (same t above) ∙ gone));
-    present = λ t ticket over is. below-elim (λ s. s ≢ Absent) t bound Consumed (seen t)
-        (λ under. absurd (omega arith)) (λ above. sees .present t ticket (omega arith) (sym (same t above) ∙ is));
+    absent = λ t over lacks. below-elim (λ s. s ≡ Absent) t bound Consumed (seen t) (λ under. absurd (omega arith)) (λ above. sees .absent t (omega arith) lacks);
+    present = λ t ticket over is. below-elim (λ s. s ≢ Absent) t bound Consumed (seen t) (λ under. absurd (omega arith)) (λ above. sees .present t ticket (omega arith) is);
+  }
+
+  -- some items leave
+  pub sees-left : (gone : ℕ → Bool)
+      → Sees (λ t. cond (gone t) none (items t)) mark (λ t. cond (gone t) (cond (ltb t mark) Consumed Absent) (seen t))
+  sees-left gone = record {
+    below = λ t under. cond-elim (λ s. s ≡ Consumed) (gone t) _ (seen t) (λ q. rw (lt-ltb t mark under)) (λ q. sees .below t under);
+    absent = λ t over. elim (gone t) as (λ b. cond b none (items t) ≡ none → cond b (cond (ltb t mark) Consumed Absent) (seen t) ≡ Absent)
+        [ true ↦ λ lacks. rw (le-ltb t mark over) | false ↦ sees .absent t over ];
+    present = λ t ticket over. elim (gone t) as (λ b. cond b none (items t) ≡ some ticket → cond b (cond (ltb t mark) Consumed Absent) (seen t) ≢ Absent)
+        [ true ↦ λ is. absurd (Option·none-ne-some ticket is) | false ↦ sees .present t ticket over ];
   }
 
   -- an item comes
@@ -97,11 +105,15 @@ module _ (v : View) (k : ℕ) where
   fits-seen-as state timestamp there (output t c) waits f = f
   fits-seen-as state timestamp there (input t c m s) waits (inside, l, e, top, sees) = (inside, l, e, top, sees-as (v .item c) m s sees state timestamp waits there)
 
-  pub fits-raised : (now : ℕ → ℕ → Option ℕ) (bound : ℕ) → bound ≤ never → ((c timestamp : ℕ) → bound ≤ timestamp → now c timestamp ≡ v .item c timestamp)
-      → (c : Connection) → ConnectionFitsIn v k c → ConnectionFits (v .thread) (v .channel) now k (consumedBelow bound c)
-  fits-raised now bound small same unused f = tt
-  fits-raised now bound small same (output t c) f = f
-  fits-raised now bound small same (input t c m s) (inside, l, e, top, sees) = (inside, l, e, omega arith, sees-raised (v .item c) m s sees (now c) bound (same c))
+  pub fits-raised : (bound : ℕ) → bound ≤ never → (c : Connection) → ConnectionFitsIn v k c → ConnectionFitsIn v k (consumedBelow bound c)
+  fits-raised bound small unused f = tt
+  fits-raised bound small (output t c) f = f
+  fits-raised bound small (input t c m s) (inside, l, e, top, sees) = (inside, l, e, omega arith, sees-raised (v .item c) m s sees bound)
+
+  pub fits-forgetting : (gone : Pairs) (c : Connection) → ConnectionFitsIn v k c → ConnectionFitsIn (left v gone) k (forgetting gone c)
+  fits-forgetting gone unused f = tt
+  fits-forgetting gone (output t c) f = f
+  fits-forgetting gone (input t c m s) (inside, l, e, top, sees) = (inside, l, e, top, sees-left (v .item c) m s sees (gone c))
 
   pub fits-noticing : (channel timestamp ticket : ℕ) (c : Connection) → ConnectionFitsIn v k c → ConnectionFitsIn (withItem v channel timestamp ticket) k (noticing channel timestamp c)
   fits-noticing channel timestamp ticket unused f = tt

@@ -1,8 +1,10 @@
 -- What follows from the rules.
 pub mod Basis
 pub mod Laws
+pub mod Starts
 pub mod Connections
 pub mod Ways
+pub mod Leaving
 pub mod Moved
 pub mod Order
 pub mod Seen

@@ -5,6 +5,7 @@ use Rattle.rules.proofs.Basis.{Which, Channel, NewThread, AttachInput, 
 use Rattle.rules.specs.Claims.{OnlyGetsOpen, OnlyConsumesConsume, ConnectionsStay}
 use Rattle.rules.specs.Rules.{Connection, unused, output, input, View, at, owner, outputTo, inputFrom, KeepTime, stateOn, ifInput, seenAs, consumedBelow, noticed, noticing, unseenIf, firstSeen, freedFrom, Outcome, rule, NoneOf, Does}
 use Rattle.rules.proofs.Laws.{cond-elim, at-elim, below-elim, some-is, some-one, not-none}
+use Rattle.rules.proofs.Leaving.{swept-connection}
 use Rattle.rules.proofs.Ways.{not-refused}
 
 -- what a call, answered with this time, makes of the connection with this number
@@ -55,7 +56,8 @@ module _ (v : View) (k : ℕ) where
       subst (Goal (by thread (Consume connection timestamp))) (sym e) (one-moves _ 0 connection _ _ refl (consumed thread timestamp (v .connection connection) refl))
   moves (by thread (ConsumeUntil connection timestamp)) clear out e =
       subst (Goal (by thread (ConsumeUntil connection timestamp))) (sym e) (one-moves _ 0 connection _ _ refl (raised (suc timestamp) (v .connection connection)))
-  moves (sweep bound slice) clear out (time, items, is, those, e) = subst (Goal (sweep bound slice)) (sym e) (raised time (v .connection k))
+  moves (sweep bound slice) clear out (time, items, is, those, e) = subst (Goal (sweep bound slice)) (sym e)
+      (subst (Moved (sweep bound slice) time k (v .connection k)) (sym (swept-connection time (v .connection k))) (raised time (v .connection k)))
 
   moved : (call : Call) (out : Outcome) → Does v call out → Goal call out
   moved call out (inl (refused, view, lent)) = subst (λ (w : View). Moved call (out .time) k (v .connection k) (w .connection k)) (sym view) (kept (v .connection k))

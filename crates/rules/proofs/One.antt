@@ -3,7 +3,7 @@ use Rattle.calls.specs.Questions.{Question, visible-time, weak-bound, strong-bo
 use Rattle.rules.proofs.Basis.{_≡_, _∙_, refl, sym, ap, ap₂, subst, false, true≢false, List, [], _∷_, _++_, inl, inr, some, ℕ, arith, eqb, length, drop, eq-eqb, Open, Which, Earliest, Latest, Named, Channel, NewThread, AttachInput, AttachOutput, Detach, End, Set, Put, Get, Consume}
 use Rattle.rules.proofs.Basis.{ConsumeUntil, Bound, Call, by, sweep}
 use Rattle.rules.specs.Claims.{DoesOneThing, GivesOnce}
-use Rattle.rules.specs.Rules.{output, input, View, withThread, withChannel, withConnection, seenAs, firstSeen, Item, Listed, tickets, Refusal, refuse, named-never, Takes, slice-short, Outcome, done, Lowest, withItem, swept, rule, Refuses, NoneOf, Does, askedOf, Says, BoundOf}
+use Rattle.rules.specs.Rules.{below, output, input, View, withThread, withChannel, withConnection, seenAs, firstSeen, Item, Listed, tickets, Refusal, refuse, named-never, Takes, slice-short, Outcome, done, Lowest, withItem, swept, rule, Refuses, NoneOf, Does, askedOf, Says, BoundOf}
 use Rattle.rules.specs.Runs.{Reply, replyOf, told, Gives}
 use Rattle.rules.proofs.Laws.{some-one, smallest-one, not-below}
 use Rattle.rules.proofs.OneList.{listed-one}
@@ -20,10 +20,10 @@ takes-one Latest Fits a b s t = omega (arith, s .1 b (t .0), t .1 a (s .0))
 takes-one (Named name) Fits a b s t = s .1 ∙ sym (t .1)
 
 -- a bound, and the items below it
-pub below-one : (v : View) (bound : Bound) (a b : ℕ) (l m : List Item) → BoundOf v bound a → BoundOf v bound b → Listed v a l → Listed v b m → (a ≡ b) × (l ≡ m)
+pub below-one : (v : View) (bound : Bound) (a b : ℕ) (l m : List Item) → BoundOf v bound a → BoundOf v bound b → Listed v (below a) l → Listed v (below b) m → (a ≡ b) × (l ≡ m)
 below-one v bound a b l m is is′ those those′ =
     let same : a ≡ b = bound-one v bound a b is is′ in
-    (same, listed-one (subst (λ (x : ℕ). Listed v x l) same those) those′)
+    (same, listed-one (subst (λ (x : ℕ). Listed v (below x) l) same those) those′)
 
 -- ---- a refusal has a code, and answers one thing
 

@@ -1,6 +1,6 @@
 -- There is one list in line of the same items, for the first of each is the first of the other. Assumes nothing.
-use Rattle.rules.proofs.Basis.{_≡_, _∙_, refl, sym, ap₂, subst, List, [], _∷_, inl, inr, ⊎-elim, ℕ, arith}
-use Rattle.rules.specs.Rules.{View, Item, _∈_, Before, InLine, Listed}
+use Rattle.rules.proofs.Basis.{_≡_, _∙_, refl, sym, ap₂, subst, List, [], _∷_, inl, inr, ⊎-elim, arith}
+use Rattle.rules.specs.Rules.{Pairs, View, Item, _∈_, Before, InLine, Listed}
 
 -- no item is before itself, nor two before each other
 not-both : (a b : Item) → Before a b → Before b a → ⊥
@@ -34,8 +34,8 @@ same-items (a ∷ l) (b ∷ m) s t there back =
     let rest : l ≡ m = same-items l m (s .1) (t .1) (rest-in a b l m same (s .0) there) (rest-in b a m l (sym same) (t .0) back) in
     ap₂ (λ (x : Item) (y : List Item). x ∷ y) same rest
 
-pub listed-one : {v : View} {bound : ℕ} {l m : List Item} → Listed v bound l → Listed v bound m → l ≡ m
-listed-one {v} {bound} {l} {m} s t =
+pub listed-one : {v : View} {among : Pairs} {l m : List Item} → Listed v among l → Listed v among m → l ≡ m
+listed-one {v} {among} {l} {m} s t =
     same-items l m (s .in-line) (t .in-line)
     (λ item x. t .exactly item .1 (s .exactly item .0 x))
     (λ item x. s .exactly item .1 (t .exactly item .0 x))

@@ -1,11 +1,13 @@
--- Every view that calls reach is in order: the fresh one is, and each of the six ways keeps it so. Assumes nothing.
-use Rattle.rules.proofs.Basis.{_≡_, _∙_, refl, sym, ap, subst, true, cond, true≢false, none, some, Option·none-ne-some, ℕ, _≤_, _<_, arith, ltb, le-ltb, Call, Ticket, Passable}
+-- Every view that calls reach is in order: a start is, and each of the six ways and leaving keep it so. Assumes nothing.
+use Rattle.rules.proofs.Basis.{_≡_, _∙_, refl, sym, ap, subst, true, none, some, Option·none-ne-some, ℕ, _≤_, _<_, arith, Call, Ticket, Passable}
 use Rattle.rules.specs.Claims.{ViewInOrder, EveryViewInOrder}
-use Rattle.rules.specs.Rules.{never, View, at, freshView, Outcome, Does}
+use Rattle.rules.specs.Rules.{never, Pairs, View, at, left, Outcome, Does}
 use Rattle.rules.specs.Runs.{Run, stop, next}
 use Rattle.rules.proofs.Connections.{fits-on, ConnectionFitsIn, fits-freed, fits-noticing, fits-raised}
-use Rattle.rules.proofs.Laws.{at-elim, item-elim, below-elim}
-use Rattle.rules.proofs.Ways.{Kind, by-kind, makes, sets, changes, ends, stocks, sweeps}
+use Rattle.rules.proofs.Laws.{at-elim, item-elim}
+use Rattle.rules.proofs.Leaving.{left-in-order}
+use Rattle.rules.proofs.Starts.{starts-in-order}
+use Rattle.rules.proofs.Ways.{Kind, makes, sets, changes, ends, stocks, raises, MayLeave, Leads, rests, by-way, leaving, does-leads}
 
 pub kind-in-order : (v : View) → ViewInOrder v → (w : View) → Kind v w → ViewInOrder w
 kind-in-order v o w (makes number inside) =
@@ -43,34 +45,38 @@ kind-in-order v o w (stocks channel timestamp ticket exists early carried may la
   items = λ c t n. item-elim (λ i. i ≡ some n → (v .channel c ≡ true) × (t < never) × Ticket n) v channel timestamp ticket c t
       (λ same same-time h. (let q : ticket ≡ n = cc in (ap (v .channel) same ∙ exists, omega arith, subst Ticket q carried))) (o .items c t n);
 }
-kind-in-order v o w (sweeps bound above) = record {
+kind-in-order v o w (raises bound top) = record {
   threads = o .threads;
   channels = o .channels;
-  connections = λ k. fits-raised v k (λ c t. cond (ltb t bound) none (v .item c t)) bound (above .top) (λ c t over. rw (le-ltb t bound over)) (v .connection k) (o .connections k);
-  items = λ c t n. below-elim (λ i. i ≡ some n → (v .channel c ≡ true) × (t < never) × Ticket n) t bound none (v .item c t)
-      (λ under h. absurd (Option·none-ne-some n h)) (λ over. o .items c t n);
+  connections = λ k. fits-raised v k bound top (v .connection k) (o .connections k);
+  items = o .items;
 }
+
+-- ---- what the six ways and leaving keep
+
+pub record Kept (P : View → Type 0) : Type 0 where
+  pub by-ways : (v : View) → ViewInOrder v → P v → (w : View) → Kind v w → P w
+  pub by-leaving : (v : View) → ViewInOrder v → P v → (gone : Pairs) → MayLeave v gone → P (left v gone)
+
+pub leads-keep : {P : View → Type 0} → Kept P → {v w : View} → Leads v w → ViewInOrder v → P v → P w
+leads-keep kept rests o here = here
+leads-keep kept (by-way {v} {w} kind) o here = kept .by-ways v o here w kind
+leads-keep kept (leaving {v} {w} gone may rest) o here = leads-keep kept rest (left-in-order v o gone) (kept .by-leaving v o here gone may)
+
+order-kept : Kept ViewInOrder
+order-kept = record { by-ways = λ v o here. kind-in-order v o; by-leaving = λ v o here gone may. left-in-order v o gone }
 
 pub does-in-order : (v : View) → ViewInOrder v → (call : Call) → Passable call → (out : Outcome) → Does v call out → ViewInOrder (out .view)
-does-in-order v o = by-kind v o ViewInOrder o (kind-in-order v o)
+does-in-order v o call fits out does = leads-keep order-kept (does-leads v o call fits out does) o o
 
-fresh-in-order : ViewInOrder freshView
-fresh-in-order = record {
-  threads = λ t x. at-elim (λ s. s ≡ some x → (t < 16) × (x ≤ never)) (λ _. none) 0 (some 0) t
-      (λ e h. (let q : 0 ≡ x = cc in (omega arith, omega arith))) (λ ne h. absurd (Option·none-ne-some x h));
-  channels = λ c h. absurd (true≢false (sym h));
-  connections = λ k. tt;
-  items = λ c t n h. absurd (Option·none-ne-some n h);
-}
-
--- what the six ways keep holds after any calls
-pub by-calls : (P : View → Type 0) → ((v : View) → ViewInOrder v → P v → (w : View) → Kind v w → P w) → {v w : View} → Run v w → ViewInOrder v → P v → P w
-by-calls P each stop o here = here
-by-calls P each (next {v} {w} call out fits does rest) o here =
-    by-calls P each rest (does-in-order v o call fits out does) (by-kind v o P here (each v o here) call fits out does)
+-- so it holds after any calls
+pub by-calls : {P : View → Type 0} → Kept P → {v w : View} → Run v w → ViewInOrder v → P v → P w
+by-calls kept stop o here = here
+by-calls kept (next {v} {w} call out fits does rest) o here =
+    by-calls kept rest (does-in-order v o call fits out does) (leads-keep kept (does-leads v o call fits out does) o here)
 
 pub calls-in-order : {v w : View} → Run v w → ViewInOrder v → ViewInOrder w
-calls-in-order calls o = by-calls ViewInOrder (λ v o here. kind-in-order v o) calls o o
+calls-in-order calls o = by-calls order-kept calls o o
 
 pub every-view-in-order : EveryViewInOrder
-every-view-in-order v run = calls-in-order run fresh-in-order
+every-view-in-order v reached = calls-in-order (reached .run) (starts-in-order (reached .starts))

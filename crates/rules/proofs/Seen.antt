@@ -1,10 +1,11 @@
 -- What an input connection sees is as 01 says in every view in order, and each change of a connection moves it forward. Assumes nothing.
-use Rattle.rules.proofs.Basis.{_≡_, refl, sym, subst, _≢_, none, some, Option·some-injective, ℕ, _≤_, arith, le-refl, State, Absent, Unseen, Open, Consumed, stateNumber}
-use Rattle.rules.specs.Claims.{Forward, Sees, EveryInputSees, SeenMovesForward}
-use Rattle.rules.specs.Rules.{Connection, unused, output, input, View, inputFrom, KeepTime, stateOn}
-use Rattle.rules.proofs.Connections.{opens, Turned, Turn, ConnectionFitsIn, rests, alike, freed, consumes, writes, comes, reads, moves}
+use Rattle.rules.proofs.Basis.{_≡_, refl, sym, subst, inl, inr, _≢_, none, some, Option·some-injective, ℕ, _≤_, arith, le-refl, State, Absent, Unseen, Open, Consumed, stateNumber, Call, by, sweep, Passable}
+use Rattle.rules.specs.Claims.{Forward, Sees, ViewInOrder, EveryInputSees, SeenMovesForward}
+use Rattle.rules.specs.Rules.{Connection, unused, output, input, View, inputFrom, KeepTime, stateOn, Outcome, Does}
+use Rattle.rules.proofs.Connections.{opens, Turned, Turn, ConnectionFitsIn, rests, alike, freed, consumes, writes, comes, reads, moves, turned-raised}
+use Rattle.rules.proofs.Leaving.{swept-connection}
 use Rattle.rules.proofs.Order.{every-view-in-order}
-use Rattle.rules.proofs.Ways.{by-kind, kind-turned}
+use Rattle.rules.proofs.Ways.{deed-kind, kind-turned}
 
 fits-sees : (v : View) (k channel mark : ℕ) (c : Connection) → ConnectionFitsIn v k c → inputFrom c ≡ some channel → KeepTime c mark → Sees (v .item channel) mark (stateOn c)
 fits-sees v k channel mark unused f from keeps = absurd keeps
@@ -39,7 +40,13 @@ turned-forward (reads thread channel mark may) was is = absurd (was refl)
 turned-forward (moves thread channel mark later seen now up turns) was is =
     record { channel = refl; states = λ n. turn-forward (turns n); keeps = λ was is a b. omega arith }
 
+-- each connection changes as a connection may: by the way of a deed, or as a sweep raises its mark
+does-turned : (v : View) → ViewInOrder v → (call : Call) → Passable call → (out : Outcome) → Does v call out → (k : ℕ) → Turned v (v .connection k) (out .view .connection k)
+does-turned v o call fits out (inl (refused, view, lent)) k = subst (λ (w : View). Turned v (v .connection k) (w .connection k)) (sym view) (alike (v .connection k))
+does-turned v o (by thread deed) fits out (inr (clear, accepts)) k = kind-turned v (out .view) (deed-kind v o thread deed fits clear out accepts) k
+does-turned v o (sweep bound slice) fits out (inr (clear, (time, items, is, those, e))) k =
+    subst (λ (x : Outcome). Turned v (v .connection k) (x .view .connection k)) (sym e)
+    (subst (Turned v (v .connection k)) (sym (swept-connection time (v .connection k))) (turned-raised v time (v .connection k)))
+
 pub seen-moves-forward : SeenMovesForward
-seen-moves-forward v run call fits out does k =
-    by-kind v (every-view-in-order v run) (λ w. inputFrom (v .connection k) ≢ none → inputFrom (w .connection k) ≢ none → Forward (v .connection k) (w .connection k))
-    (λ was is. unmoved (v .connection k)) (λ w kind. turned-forward (kind-turned v w kind k)) call fits out does
+seen-moves-forward v run call fits out does k = turned-forward (does-turned v (every-view-in-order v run) call fits out does k)

@@ -1,12 +1,12 @@
--- The items present are one list in line; a put adds one item, a sweep takes those below its bound. Assumes nothing.
-use Rattle.rules.proofs.Basis.{_≡_, _∙_, refl, sym, ap, ap₂, subst, Bool, true, false, cond, not, true≢false, List, [], _∷_, _⊎_, inl, inr, ⊎-elim, _↔_, by-cases, none, some, Option·none-ne-some, ℕ, suc, _+_, _≤_, _<_, decLt, arith, ltb, length, not-true, eq-eqb, ltb-true, lt-ltb}
-use Rattle.rules.proofs.Basis.{le-ltb, Bound}
+-- The items present are one list in line; a put adds one item, and any set of pairs divides the list into those that leave and those that stay. Assumes
+-- nothing.
+use Rattle.rules.proofs.Basis.{_≡_, _∙_, refl, sym, ap, ap₂, subst, Bool, true, false, cond, not, true≢false, List, [], _∷_, _⊎_, inl, inr, ⊎-elim, _↔_, by-cases, none, some, Option·none-ne-some, ℕ, suc, _+_, decLt, arith, length, not-true, eq-eqb}
+use Rattle.rules.proofs.Basis.{Bound}
 use Rattle.rules.specs.Claims.{ViewInOrder}
-use Rattle.rules.specs.Rules.{never, View, Item, _∈_, Before, InLine, Listed, withItem, swept, IsPresent, BoundOf}
+use Rattle.rules.specs.Rules.{Pairs, everything, below, View, Item, _∈_, Before, InLine, Listed, withItem, left, IsPresent, BoundOf}
 use Rattle.rules.proofs.Bounds.{bound-is-there}
-use Rattle.rules.proofs.Laws.{cond-elim, not-none, below-elim}
+use Rattle.rules.proofs.Laws.{cond-elim, not-none}
 use Rattle.rules.proofs.Made.{withItem-keeps, withItem-brings}
-use Rattle.rules.proofs.Ways.{bound-at-least}
 
 -- ---- before
 
@@ -98,52 +98,56 @@ halves keep (item ∷ items) =
 
 -- ---- the stock after a call
 
--- some of a list are a list of what is so chosen
-listed-some : (v w : View) (bound : ℕ) (keep : Item → Bool)
-    → ((item : Item) → (IsPresent w item × (item .timestamp < bound)) ↔ ((IsPresent v item × (item .timestamp < never)) × (keep item ≡ true)))
-    → (items : List Item) → Listed v never items → Listed w bound (some-of keep items)
-listed-some v w bound keep chosen items those = record {
-  in-line = some-in-line keep items (those .in-line);
+-- the item's pair is one of the set
+abbrev pub is-among : Pairs → Item → Bool
+is-among among item = among (item .channel) (item .timestamp)
+
+-- those of a set of pairs, and those that stay where the set leaves
+pub listed-among : (v : View) (among : Pairs) (items : List Item) → Listed v everything items → Listed v among (some-of (is-among among) items)
+listed-among v among items those = record {
+  in-line = some-in-line (is-among among) items (those .in-line);
   exactly = λ item. (
-    λ q. (let (inside, kept) = some-members keep items item .0 q in chosen item .1 (those .exactly item .0 inside, kept)),
-    λ q. (let (was, kept) = chosen item .0 q in some-members keep items item .1 (those .exactly item .1 was, kept)),
+    λ q. (let (inside, chosen) = some-members (is-among among) items item .0 q in (those .exactly item .0 inside .0, chosen)),
+    λ (here, chosen). some-members (is-among among) items item .1 (those .exactly item .1 (here, refl), chosen),
   );
 }
 
--- those below a bound, and those that a sweep leaves
-pub listed-below : (v : View) (bound : ℕ) → bound ≤ never → (items : List Item) → Listed v never items → Listed v bound (some-of (λ item. ltb (item .timestamp) bound) items)
-listed-below v bound small = listed-some v v bound _
-    (λ item. (λ (here, below). ((here, omega arith), lt-ltb (item .timestamp) bound below), λ (was, below). (was .0, ltb-true (item .timestamp) bound below)))
+pub stock-left : (v : View) (gone : Pairs) (items : List Item) → Listed v everything items → Listed (left v gone) everything (some-of (λ item. not (is-among gone item)) items)
+stock-left v gone items those =
+    let stays : Item → Bool = λ item. not (is-among gone item) in
+    record {
+      in-line = some-in-line stays items (those .in-line);
+      exactly = λ item. (
+        λ q. (let (inside, stayed) = some-members stays items item .0 q in (rw (not-true (is-among gone item) stayed) (those .exactly item .0 inside .0), refl)),
+        λ (here, any). cond-elim (λ i. i ≡ some (item .ticket) → item ∈ some-of stays items) (is-among gone item) none (v .item (item .channel) (item .timestamp))
+            (λ leaves p. absurd (Option·none-ne-some (item .ticket) p)) (λ stayed p. some-members stays items item .1 (those .exactly item .1 (p, refl), ap not stayed)) here,
+      );
+    }
 
-pub stock-swept : (v : View) (bound : ℕ) (items : List Item) → Listed v never items → Listed (swept v bound) never (some-of (λ item. not (ltb (item .timestamp) bound)) items)
-stock-swept v bound = listed-some v (swept v bound) never _ (λ item. (
-  λ (here, early). below-elim (λ i. i ≡ some (item .ticket) → (IsPresent v item × (item .timestamp < never)) × (not (ltb (item .timestamp) bound) ≡ true))
-      (item .timestamp) bound none (v .item (item .channel) (item .timestamp)) (λ under p. absurd (Option·none-ne-some (item .ticket) p))
-      (λ over p. ((p, early), ap not (le-ltb (item .timestamp) bound over))) here,
-  λ ((here, early), above). (rw (not-true (ltb (item .timestamp) bound) above) here, early),
-))
-
-pub stock-added : (v : View) (channel timestamp ticket : ℕ) → timestamp < never → v .item channel timestamp ≡ none → (items : List Item) → Listed v never items
-    → (more : List Item) × Listed (withItem v channel timestamp ticket) never more × (length more ≡ suc (length items))
-stock-added v channel timestamp ticket early lacks items those =
+pub stock-added : (v : View) (channel timestamp ticket : ℕ) → v .item channel timestamp ≡ none → (items : List Item) → Listed v everything items
+    → (more : List Item) × Listed (withItem v channel timestamp ticket) everything more × (length more ≡ suc (length items))
+stock-added v channel timestamp ticket lacks items those =
     let item : Item = record { channel = channel; timestamp = timestamp; ticket = ticket } in
     let w : View = withItem v channel timestamp ticket in
     let (more, added) = add item items (those .in-line) (λ other q (c, t). not-none (those .exactly other .0 q .0) (sym (ap₂ (v .item) c t) ∙ lacks)) in
-    let new : IsPresent w item × (timestamp < never) = (rw (eq-eqb channel channel refl, eq-eqb timestamp timestamp refl), early) in (
+    let new : IsPresent w item = rw (eq-eqb channel channel refl, eq-eqb timestamp timestamp refl) in (
       more,
       record {
         in-line = added .in-line;
         exactly = λ other. (
-          λ q. ⊎-elim (λ e. subst (λ (i : Item). IsPresent w i × (i .timestamp < never)) (sym e) new)
-              (λ p. (let (here, under) = those .exactly other .0 p in (withItem-keeps v channel timestamp ticket lacks other here, under))) (added .members other .0 q),
-          λ (here, under). added .members other .1 (⊎-elim inl (λ was. inr (those .exactly other .1 (was, under))) (withItem-brings v channel timestamp ticket other here)),
+          λ q. (
+            ⊎-elim (λ e. subst (IsPresent w) (sym e) new) (λ p. withItem-keeps v channel timestamp ticket lacks other (those .exactly other .0 p .0)) (added .members other .0 q),
+            refl,
+          ),
+          λ (here, any). added .members other .1 (⊎-elim inl (λ was. inr (those .exactly other .1 (was, refl))) (withItem-brings v channel timestamp ticket other here)),
         );
       },
       added .one-more,
     )
 
 -- the items below either bound
-pub low-items : (v : View) → ViewInOrder v → (items : List Item) → Listed v never items → (bound : Bound) → (time : ℕ) × (low : List Item) × BoundOf v bound time × Listed v time low
+pub low-items : (v : View) → ViewInOrder v → (items : List Item) → Listed v everything items
+    → (bound : Bound) → (time : ℕ) × (low : List Item) × BoundOf v bound time × Listed v (below time) low
 low-items v o items those bound =
     let (time, is) = bound-is-there v o bound in
-    (time, some-of (λ item. ltb (item .timestamp) time) items, is, listed-below v time (bound-at-least {v = v} bound is .top) items those)
+    (time, some-of (is-among (below time)) items, is, listed-among v (below time) items those)

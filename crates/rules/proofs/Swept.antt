@@ -1,26 +1,33 @@
 -- A strong sweep hands back exactly what could not be got, a weak one only such; what stays can be got as well as before. Assumes nothing.
-use Rattle.rules.proofs.Basis.{_≡_, refl, sym, ap, subst, List, _++_, inl, inr, ⊎-elim, _↔_, none, some, Option·none-ne-some, ℕ, _≤_, _<_, arith, lt-of-not-le, length, drop, le-ltb, Bound, Weak, Strong, sweep}
+use Rattle.rules.proofs.Basis.{_≡_, _∙_, refl, sym, ap, subst, List, _++_, inl, inr, ⊎-elim, _↔_, none, some, Option·none-ne-some, ℕ, _≤_, _<_, arith, lt-of-not-le, length, drop, ltb-true, lt-ltb, le-ltb, Bound, Weak, Strong, sweep}
 use Rattle.rules.specs.Claims.{Handed, HandsBack, SweptExactlyTheUnreachable, WeaklySweptOnlyTheUnreachable, SweepsSpareTheRest}
-use Rattle.rules.specs.Rules.{never, Connection, unused, output, input, View, stateOn, consumedBelow, StrongBound, BoundOf, Item, IsPresent, _∈_, Listed, tickets, Outcome, done, swept, Does}
+use Rattle.rules.specs.Rules.{never, below, Connection, unused, output, input, View, stateOn, consumedBelow, StrongBound, BoundOf, Item, IsPresent, _∈_, Listed, tickets, Outcome, done, left, swept, Does}
 use Rattle.rules.specs.Runs.{CouldBeGot}
 use Rattle.rules.proofs.Accounts.{items-are-listed}
 use Rattle.rules.proofs.Bounds.{bound-is-there}
 use Rattle.rules.proofs.Connections.{Waits}
 use Rattle.rules.proofs.Gettable.{gettable, lost}
 use Rattle.rules.proofs.Laws.{smallest-one, below-elim, not-below}
+use Rattle.rules.proofs.Leaving.{left-in-order, swept-connection}
 use Rattle.rules.proofs.One.{below-one, accepted, does-one-thing}
 use Rattle.rules.proofs.Order.{every-view-in-order, kind-in-order}
 use Rattle.rules.proofs.Stock.{low-items}
-use Rattle.rules.proofs.Ways.{bound-at-least, AtLeast, at-least-waits, sweeps}
+use Rattle.rules.proofs.Ways.{bound-at-least, AtLeast, at-least-waits, raises}
 
 -- ---- what a sweep hands back, where these are the items below its bound
 
-module _ (v : View) (bound : Bound) (time : ℕ) (is : BoundOf v bound time) (items : List Item) (those : Listed v time items) where
+lows : {v : View} {time : ℕ} {items : List Item} → Listed v (below time) items → (item : Item) → (item ∈ items) ↔ (IsPresent v item × (item .timestamp < time))
+lows {v} {time} {items} those item = (
+  λ listed. (let (here, chosen) = those .exactly item .0 listed in (here, ltb-true (item .timestamp) time chosen)),
+  λ (here, low). those .exactly item .1 (here, lt-ltb (item .timestamp) time low),
+)
+
+module _ (v : View) (bound : Bound) (time : ℕ) (is : BoundOf v bound time) (items : List Item) (those : Listed v (below time) items) where
   stays-present : (item : Item) → IsPresent (swept v time) item ↔ (IsPresent v item × (item ∈ items → ⊥))
   stays-present item = (
     below-elim (λ i. i ≡ some (item .ticket) → IsPresent v item × (item ∈ items → ⊥)) (item .timestamp) time none (v .item (item .channel) (item .timestamp))
-        (λ under gone. absurd (Option·none-ne-some (item .ticket) gone)) (λ over here. (here, λ listed. omega (arith, those .exactly item .0 listed .1))),
-    λ (here, unlisted). rw (le-ltb (item .timestamp) time (not-below (λ below. unlisted (those .exactly item .1 (here, below))))) here,
+        (λ under gone. absurd (Option·none-ne-some (item .ticket) gone)) (λ over here. (here, λ listed. omega (arith, lows those item .0 listed .1))),
+    λ (here, unlisted). rw (le-ltb (item .timestamp) time (not-below (λ below. unlisted (lows those item .1 (here, below))))) here,
   )
 
   -- what a sweep may do is one thing, so it is enough that it may do this
@@ -48,10 +55,10 @@ swept-exactly-the-unreachable v run =
       items = items;
       hands-back = hands-back v Strong time is items those;
       exactly = λ item. (
-        λ listed. (let (here, below) = those .exactly item .0 listed in (here, lost o (bound-at-least Strong is) item below)),
-        λ (here, unreachable). those .exactly item .1 (here, lt-of-not-le (λ late. unreachable (gettable v o time is item here late))),
+        λ listed. (let (here, below) = lows those item .0 listed in (here, lost o (bound-at-least Strong is) item below)),
+        λ (here, unreachable). lows those item .1 (here, lt-of-not-le (λ late. unreachable (gettable v o time is item here late))),
       );
-      kept = λ item here unlisted. gettable v o time is item here (not-below (λ below. unlisted (those .exactly item .1 (here, below))));
+      kept = λ item here unlisted. gettable v o time is item here (not-below (λ below. unlisted (lows those item .1 (here, below))));
     }
 
 pub weakly-swept-only-the-unreachable : WeaklySweptOnlyTheUnreachable
@@ -62,22 +69,26 @@ weakly-swept-only-the-unreachable v run =
     record {
       items = items;
       hands-back = hands-back v Weak time is items those;
-      below = λ bound is′. subst (λ (x : ℕ). (item : Item) → (item ∈ items) ↔ (IsPresent v item × (item .timestamp < x))) (smallest-one is is′) (those .exactly);
-      only = λ item listed. lost o (at-least-waits o Weak (bound-at-least Weak is)) item (those .exactly item .0 listed .1);
+      below = λ bound is′. subst (λ (x : ℕ). (item : Item) → (item ∈ items) ↔ (IsPresent v item × (item .timestamp < x))) (smallest-one is is′) (lows those);
+      only = λ item listed. lost o (at-least-waits o Weak (bound-at-least Weak is)) item (lows those item .0 listed .1);
     }
 
 -- ---- what a sweep leaves
 
-state-above : (time timestamp : ℕ) (c : Connection) → time ≤ timestamp → stateOn (consumedBelow time c) timestamp ≡ stateOn c timestamp
-state-above time timestamp unused above = refl
-state-above time timestamp (output t c) above = refl
-state-above time timestamp (input t c m s) above = rw (le-ltb timestamp time above)
+raised-above : (time timestamp : ℕ) (c : Connection) → time ≤ timestamp → stateOn (consumedBelow time c) timestamp ≡ stateOn c timestamp
+raised-above time timestamp unused above = refl
+raised-above time timestamp (output t c) above = refl
+raised-above time timestamp (input t c m s) above = rw (le-ltb timestamp time above)
+
+state-above : (v : View) (time timestamp k : ℕ) → time ≤ timestamp → stateOn (swept v time .connection k) timestamp ≡ stateOn (v .connection k) timestamp
+state-above v time timestamp k above =
+    ap (λ (c : Connection). stateOn c timestamp) (swept-connection time (v .connection k)) ∙ raised-above time timestamp (v .connection k) above
 
 -- the strong bound is not above what it was: what it was taken of is there as before
 still-low : (v : View) (time strong now : ℕ) → AtLeast Strong time v → StrongBound v strong → strong < never → StrongBound (swept v time) now → now ≤ strong
 still-low v time strong now above was under is =
     ⊎-elim (λ lives. is .at-most-each strong (inl lives))
-    (λ (k, waits). is .at-most-each strong (inr (k, subst Waits (sym (state-above time strong (v .connection k) (above .pends k strong waits))) waits)))
+    (λ (k, waits). is .at-most-each strong (inr (k, subst Waits (sym (state-above v time strong k (above .pends k strong waits))) waits)))
     (was .attained under)
 
 pub sweeps-spare-the-rest : SweepsSpareTheRest
@@ -85,7 +96,7 @@ sweeps-spare-the-rest v run bound slice fits out does ok =
     let o = every-view-in-order v run in
     let (time, items, is, those, e) = accepted v (sweep bound slice) out does ok .1 in
     let above = at-least-waits o bound (bound-at-least bound is) in
-    let o′ = kind-in-order v o (swept v time) (sweeps time above) in
+    let o′ = kind-in-order (left v (below time)) (left-in-order v o (below time)) (swept v time) (raises time (above .top)) in
     let (strong, was) = bound-is-there v o Strong in
     let (now, after) = bound-is-there (swept v time) o′ Strong in
     let spared : (item : Item) → IsPresent (swept v time) item → CouldBeGot v item → CouldBeGot (swept v time) item = λ item here got. (
@@ -94,4 +105,4 @@ sweeps-spare-the-rest v run bound slice fits out does ok =
     gettable (swept v time) o′ now after item here (omega (arith, still-low v time strong now above was (omega arith) after))) in
     subst (λ (x : Outcome). ((item : Item) → IsPresent (x .view) item → CouldBeGot v item → CouldBeGot (x .view) item)
     × ((connection timestamp : ℕ) → x .time ≤ timestamp → stateOn (x .view .connection connection) timestamp ≡ stateOn (v .connection connection) timestamp)) (sym e)
-    (spared, λ k timestamp above. state-above time timestamp (v .connection k) above)
+    (spared, λ k timestamp. state-above v time timestamp k)

@@ -3,7 +3,7 @@ use Rattle.rules.proofs.Basis.{_≡_, _∙_, refl, ap, subst, false, Bo
 use Rattle.rules.proofs.Basis.{Named, Channel, NewThread, AttachInput, AttachOutput, Detach, End, Set, Put, Get, Consume, ConsumeUntil, Bound, Weak, Strong, Call, by, sweep, sliceOf}
 use Rattle.calls.specs.Questions.{Question, visible-time, weak-bound, strong-bound, state-of, items-present}
 use Rattle.rules.specs.Claims.{EveryCallAnswered, EveryQuestionAnswered, ViewInOrder}
-use Rattle.rules.specs.Rules.{never, View, owner, outputTo, inputFrom, stateOn, VisibleTime, Item, Listed, Refusal, refuse, no-thread, not-its-own, named-never, FreeThread, FreeChannel, FreeConnection, TakesUnseen, slice-short, Outcome, Lowest, rule, Refuses, NoneOf, Does, BoundOf}
+use Rattle.rules.specs.Rules.{never, everything, View, owner, outputTo, inputFrom, stateOn, VisibleTime, Item, Listed, Refusal, refuse, no-thread, not-its-own, named-never, FreeThread, FreeChannel, FreeConnection, TakesUnseen, slice-short, Outcome, Lowest, rule, Refuses, NoneOf, Does, BoundOf}
 use Rattle.rules.specs.Rules.{no-channel, table-full, askedOf, Says}
 use Rattle.rules.proofs.Accounts.{items-are-listed}
 use Rattle.rules.proofs.Bounds.{bound-is-there}
@@ -47,7 +47,7 @@ free-is places Free decide = ⊎-elim (λ (m, inside, low). no (λ full. full m 
 lowest-free : (places : ℕ) (Free : ℕ → Type 0) → ((n : ℕ) → Dec (Free n)) → (((number : ℕ) → number < places → Free number → ⊥) → ⊥) → (number : ℕ) × Lowest Free number
 lowest-free places Free decide clear = ⊎-elim (λ (m, inside, low). (m, low)) (λ lacks. absurd (clear lacks)) (search-below Free decide places)
 
-module _ (v : View) (o : ViewInOrder v) (items : List Item) (those : Listed v never items) where
+module _ (v : View) (o : ViewInOrder v) (items : List Item) (those : Listed v everything items) where
   early-is : (thread time : ℕ) → Dec ((visible : ℕ) × VisibleTime v thread visible × (time < visible))
   early-is thread time =
       let (visible, is) = Ways.visible-time v o thread in
@@ -59,7 +59,7 @@ module _ (v : View) (o : ViewInOrder v) (items : List Item) (those : Listed v ne
       (λ gone. no (λ (c, t, into, here). not-none here (ap (λ (x : ℕ). v .item x timestamp) (some-one into e) ∙ gone)))
       (λ ticket here. yes (channel, ticket, e, here)))
 
-  full-is : Dec ((all : List Item) × Listed v never all × (length all ≡ 64))
+  full-is : Dec ((all : List Item) × Listed v everything all × (length all ≡ 64))
   full-is = map-dec (λ full. (items, those, full)) (λ (all, is, full). ap length (listed-one those is) ∙ full) (ℕ-discrete (length items) 64)
 
   abbrev Unseens : ℕ → ℕ → Type 0

@@ -1,8 +1,9 @@
--- An accepted call changes a view in one of six ways, so a law of all calls has six cases. Assumes nothing.
-use Rattle.rules.proofs.Basis.{_≡_, refl, sym, subst, Bool, true, false, inl, inr, ⊎-elim, Dec·and, Dec·not-not, Dec·of-iff, none, some, Option·some-injective, Option·none-ne-some, ℕ, suc, _≤_, _<_, arith, le-refl, lt-of-not-le, State, Unseen, Open, Consumed, Which, Earliest, Latest}
-use Rattle.rules.proofs.Basis.{Named, Channel, NewThread, AttachInput, AttachOutput, Detach, End, Set, Put, Get, Consume, ConsumeUntil, Bound, Weak, Strong, Call, by, sweep, Ticket, Passable, stateNumber}
+-- A call changes a view in one of six ways, of which none takes an item, perhaps after items leave; so a law of all calls is a law of these, and has six
+-- cases and one. Assumes nothing.
+use Rattle.rules.proofs.Basis.{_≡_, refl, sym, subst, Bool, true, false, inl, inr, ⊎-elim, Dec·and, Dec·not-not, Dec·of-iff, none, some, Option·some-injective, Option·none-ne-some, ℕ, suc, _≤_, _<_, arith, le-refl, lt-of-not-le, ltb-true, State, Unseen, Open, Consumed, Which, Earliest, Latest}
+use Rattle.rules.proofs.Basis.{Named, Deed, Channel, NewThread, AttachInput, AttachOutput, Detach, End, Set, Put, Get, Consume, ConsumeUntil, Bound, Weak, Strong, Call, by, sweep, Ticket, Passable, stateNumber}
 use Rattle.rules.specs.Claims.{Living, ViewInOrder}
-use Rattle.rules.specs.Rules.{never, Connection, unused, output, input, View, withThread, withChannel, withConnection, owner, outputTo, KeepTime, stateOn, IsTime, VisibleTime, BoundOf, Takes, Outcome, Lowest, withItem, ended, swept, rule, NoneOf, Does, seenAs}
+use Rattle.rules.specs.Rules.{never, Pairs, below, Connection, unused, output, input, View, withThread, withChannel, withConnection, owner, outputTo, KeepTime, stateOn, IsTime, VisibleTime, BoundOf, Takes, Outcome, Lowest, withItem, ended, left, raised, deedRow, rule, NoneOf, Does, seenAs}
 use Rattle.rules.proofs.Connections.{Turned, Allowed, Waits, ConnectionFitsIn, Turn, absent-done, reads, turned-freed, writes, turned-seen-as, turned-noticing, turned-raised, sees-first, seen-there, fits-seen-as, seen-above, fits-raised, freed, alike, opens, consumes}
 use Rattle.rules.proofs.Laws.{smallest-above, not-below, option-cases, smallest, at-elim, either, some-is, exists-below, state-is, smallest-one}
 
@@ -97,6 +98,10 @@ pub at-least-bound : {v : View} {least now : ℕ} (bound : Bound) → AtLeast bo
 at-least-bound Weak a is = smallest-above is (a .top) (λ t. ⊎-elim (a .times t) (λ (k, q). a .pends k t q))
 at-least-bound Strong a is = smallest-above is (a .top) (λ t. ⊎-elim (a .times t) (λ (k, q). a .pends k t q))
 
+-- so is a smaller time
+pub at-least-smaller : {bound : Bound} {least smaller : ℕ} {v : View} → smaller ≤ least → AtLeast bound least v → AtLeast bound smaller v
+at-least-smaller small a = record { top = omega (arith, a .top); times = λ t q. omega (arith, a .times t q); pends = λ k t q. omega (arith, a .pends k t q) }
+
 -- there is one
 pub bound-one : (v : View) (bound : Bound) (a b : ℕ) → BoundOf v bound a → BoundOf v bound b → a ≡ b
 bound-one v Weak a b = smallest-one
@@ -124,7 +129,17 @@ pub data Kind (v : View) : View → Type 0 where
   ends : (thread : ℕ) → Kind v (ended v thread)
   stocks : (channel timestamp ticket : ℕ) → v .channel channel ≡ true → timestamp < never → Ticket ticket → Allowed v timestamp → v .item channel timestamp ≡ none
       → Kind v (withItem v channel timestamp ticket)
-  sweeps : (bound : ℕ) → AtLeast Strong bound v → Kind v (swept v bound)
+  raises : (bound : ℕ) → bound ≤ never → Kind v (raised v bound)
+
+-- items of these pairs may leave: the time of each is past for good
+abbrev pub MayLeave : View → Pairs → Type 0
+MayLeave v gone = (channel timestamp : ℕ) → gone channel timestamp ≡ true → AtLeast Strong (suc timestamp) v
+
+-- how a call leads from a view to the next: not at all, by one way, or items leave before
+pub data Leads : View → View → Type 0 where
+  rests : {v : View} → Leads v v
+  by-way : {v w : View} → Kind v w → Leads v w
+  leaving : {v w : View} (gone : Pairs) → MayLeave v gone → Leads (left v gone) w → Leads v w
 
 module _ (v : View) (o : ViewInOrder v) where
   abbrev Goal : Outcome → Type 0
@@ -138,39 +153,44 @@ module _ (v : View) (o : ViewInOrder v) where
   sees-kind number timestamp state there waits turn =
       changes number _ (fits-seen-as v number state timestamp there (v .connection number) waits (o .connections number)) (turned-seen-as v state timestamp (v .connection number) turn)
 
-  pub accepted-kind : (call : Call) → Passable call → NoneOf (rule v call .refusals) → (out : Outcome) → rule v call .Accepts out → Goal out
-  accepted-kind (by thread Channel) fits clear out (number, low, e) = subst Goal (sym e) (makes number (free-inside 8 low (not-refused (clear .1 .0))))
-  accepted-kind (by thread (NewThread time)) fits clear out (number, low, e) =
+  pub deed-kind : (thread : ℕ) (deed : Deed) → Passable (by thread deed) → NoneOf (rule v (by thread deed) .refusals) → (out : Outcome) → deedRow v thread deed .Accepts out → Goal out
+  deed-kind thread Channel fits clear out (number, low, e) = subst Goal (sym e) (makes number (free-inside 8 low (not-refused (clear .1 .0))))
+  deed-kind thread (NewThread time) fits clear out (number, low, e) =
       subst Goal (sym e) (sets number time (free-inside 16 low (not-refused (clear .1 .1 .0))) (omega (arith, fits .1)) (allowed v o thread time (not-refused (clear .1 .0))))
-  accepted-kind (by thread (AttachInput channel)) fits clear out (number, visible, low, is, e) = subst Goal (sym e) (attach-kind number _ (low .0)
+  deed-kind thread (AttachInput channel) fits clear out (number, visible, low, is, e) = subst Goal (sym e) (attach-kind number _ (low .0)
       (free-inside 32 low (not-refused (clear .1 .1 .0)), lives v thread (not-refused (clear .0)), is-there (v .channel channel) (not-refused (clear .1 .0)), is .at-most-never, sees-first (v .item channel) visible)
       (reads thread channel visible (thread, visible, is, le-refl visible)))
-  accepted-kind (by thread (AttachOutput channel)) fits clear out (number, low, e) = subst Goal (sym e) (attach-kind number _ (low .0)
+  deed-kind thread (AttachOutput channel) fits clear out (number, low, e) = subst Goal (sym e) (attach-kind number _ (low .0)
       (free-inside 32 low (not-refused (clear .1 .1 .0)), lives v thread (not-refused (clear .0)), is-there (v .channel channel) (not-refused (clear .1 .0))) (writes thread channel))
-  accepted-kind (by thread (Detach connection)) fits clear out e = subst Goal (sym e) (changes connection unused tt (freed (v .connection connection)))
-  accepted-kind (by thread End) fits clear out e = subst Goal (sym e) (ends thread)
-  accepted-kind (by thread (Set time)) fits clear out e =
+  deed-kind thread (Detach connection) fits clear out e = subst Goal (sym e) (changes connection unused tt (freed (v .connection connection)))
+  deed-kind thread End fits clear out e = subst Goal (sym e) (ends thread)
+  deed-kind thread (Set time) fits clear out e =
       let (was, is) = lives v thread (not-refused (clear .0)) in
       subst Goal (sym e) (sets thread time (o .threads thread was is .0) (omega (arith, fits .1)) (allowed v o thread time (not-refused (clear .1 .0))))
-  accepted-kind (by thread (Put connection timestamp ticket)) fits clear out (channel, into, e) = subst Goal (sym e) (stocks channel timestamp ticket
+  deed-kind thread (Put connection timestamp ticket) fits clear out (channel, into, e) = subst Goal (sym e) (stocks channel timestamp ticket
       (written-exists v connection channel (v .connection connection) (o .connections connection) into)
       (lt-of-not-le (not-refused (clear .1 .1 .1 .0))) (fits .1 .2) (allowed v o thread timestamp (not-refused (clear .1 .1 .1 .1 .0)))
       (untaken v connection channel timestamp (not-refused (clear .1 .1 .1 .1 .1 .0)) into))
-  accepted-kind (by thread (Get connection which)) fits clear out (channel, timestamp, ticket, from, takes, there, e) =
+  deed-kind thread (Get connection which) fits clear out (channel, timestamp, ticket, from, takes, there, e) =
       let unseen : stateOn (v .connection connection) timestamp ≡ Unseen = takes-fits which _ timestamp takes in
       subst Goal (sym e) (sees-kind connection timestamp Open (omega arith) (inl unseen) (rw unseen opens))
-  accepted-kind (by thread (Consume connection timestamp)) fits clear out e =
+  deed-kind thread (Consume connection timestamp) fits clear out e =
       let is-open = Dec·not-not (state-is Open (stateOn (v .connection connection) timestamp)) .0 (not-refused (clear .1 .1 .1 .1 .0)) in
       subst Goal (sym e) (sees-kind connection timestamp Consumed (omega arith) (inr is-open) (consumes _))
-  accepted-kind (by thread (ConsumeUntil connection timestamp)) fits clear out e = subst Goal (sym e) (changes connection _
-      (fits-raised v connection (v .item) (suc timestamp) (lt-of-not-le (not-refused (clear .1 .1 .1 .0))) (λ c t over. refl) (v .connection connection) (o .connections connection))
+  deed-kind thread (ConsumeUntil connection timestamp) fits clear out e = subst Goal (sym e) (changes connection _
+      (fits-raised v connection (suc timestamp) (lt-of-not-le (not-refused (clear .1 .1 .1 .0))) (v .connection connection) (o .connections connection))
       (turned-raised v (suc timestamp) (v .connection connection)))
-  accepted-kind (sweep bound slice) fits clear out (time, items, is, those, e) = subst Goal (sym e) (sweeps time (at-least-waits o bound (bound-at-least bound is)))
 
--- so what holds of a view and of what the six ways make of it holds after every call
-pub by-kind : (v : View) → ViewInOrder v → (P : View → Type 0) → P v → ((w : View) → Kind v w → P w) → (call : Call) → Passable call → (out : Outcome) → Does v call out → P (out .view)
-by-kind v o P here each call fits out (inl (refused, view, lent)) = subst P (sym view) here
-by-kind v o P here each call fits out (inr (clear, accepts)) = each (out .view) (accepted-kind v o call fits clear out accepts)
+  accepted-leads : (call : Call) → Passable call → NoneOf (rule v call .refusals) → (out : Outcome) → rule v call .Accepts out → Leads v (out .view)
+  accepted-leads (by thread deed) fits clear out accepts = by-way (deed-kind thread deed fits clear out accepts)
+  accepted-leads (sweep bound slice) fits clear out (time, items, is, those, e) =
+      let a = at-least-waits o bound (bound-at-least bound is) in
+      subst (λ (x : Outcome). Leads v (x .view)) (sym e)
+      (leaving (below time) (λ c t gone. at-least-smaller (ltb-true t time gone) a) (by-way (raises time (a .top))))
+
+  pub does-leads : (call : Call) → Passable call → (out : Outcome) → Does v call out → Leads v (out .view)
+  does-leads call fits out (inl (refused, view, lent)) = subst (Leads v) (sym view) rests
+  does-leads call fits out (inr (clear, accepts)) = accepted-leads call fits clear out accepts
 
 -- in every one of them each connection changes as a connection may
 pub kind-turned : (v w : View) → Kind v w → (k : ℕ) → Turned v (v .connection k) (w .connection k)
@@ -180,4 +200,4 @@ kind-turned v w (changes number new fits turned) k = at-elim (Turned v (v .conne
     (λ e. subst (λ (n : ℕ). Turned v (v .connection n) new) (sym e) turned) (λ ne. alike (v .connection k))
 kind-turned v w (ends thread) k = turned-freed v thread (v .connection k)
 kind-turned v w (stocks channel timestamp ticket exists early carried may lacks) k = turned-noticing v channel timestamp may (v .connection k)
-kind-turned v w (sweeps bound above) k = turned-raised v bound (v .connection k)
+kind-turned v w (raises bound top) k = turned-raised v bound (v .connection k)

@@ -15,8 +15,8 @@ use Rattle.calls.specs.declared.Bound.the-variants.{Weak, Strong}
 use Rattle.calls.specs.Calls.{Call, sweep, detach, end, put, get, consume, isSweep, sliceOf, Ticket, Passable}
 use Rattle.calls.specs.Questions.{Question, items-present, Request}
 use Rattle.calls.specs.States.{stateNumber}
-use Rattle.rules.specs.Rules.{never, Connection, unused, output, input, View, freshView, owner, outputTo, inputFrom, KeepTime, stateOn, WeakBound, StrongBound, BoundOf, Item, IsPresent, _∈_, InLine, Listed, tickets, Outcome, Does, Says}
-use Rattle.rules.specs.Runs.{Run, Reachable, CouldBeGot, Reply, Gives, acceptedPuts, ticketsBack}
+use Rattle.rules.specs.Rules.{never, Pairs, everything, Connection, unused, output, input, View, freshView, owner, outputTo, inputFrom, KeepTime, stateOn, WeakBound, StrongBound, BoundOf, Item, IsPresent, _∈_, InLine, Listed, tickets, Outcome, left, Does, Says}
+use Rattle.rules.specs.Runs.{Run, Start, Reachable, CouldBeGot, Reply, Gives, acceptedPuts, ticketsBack}
 
 -- ---- every call is answered, in one way
 
@@ -186,6 +186,10 @@ pub record ViewInOrder (v : View) : Type 0 where
 abbrev pub EveryViewInOrder : Type 0
 EveryViewInOrder = (v : View) → Reachable v → ViewInOrder v
 
+-- whatever items leave, what is left is in order: `left-in-order`
+abbrev pub LeftInOrder : Type 0
+LeftInOrder = (v : View) → ViewInOrder v → (gone : Pairs) → ViewInOrder (left v gone)
+
 -- ---- items
 
 -- no call but a sweep removes or changes an item: `only-sweeps-remove`
@@ -231,11 +235,18 @@ NoPairTwice =
 
 -- the items present are one list of at most 64: `items-are-listed`
 abbrev pub ItemsAreListed : Type 0
-ItemsAreListed = (v : View) → Reachable v → (items : List Item) × Listed v never items × (length items ≤ 64)
+ItemsAreListed = (v : View) → Reachable v → (items : List Item) × Listed v everything items × (length items ≤ 64)
 
--- "Over any calls from a fresh desk, the accepted puts number the items present plus all tickets handed back, both taken from the answers.":
--- `accounts-balance`
+-- the accounts from any start, whose own items count as puts: `accounts-balance`
 abbrev pub AccountsBalance : Type 0
 AccountsBalance =
+    (start v : View) → Start start → (own : List Item) → Listed start everything own → (requests : List Request) (replies : List Reply) (code value time : ℕ)
+    → Gives start requests replies v → Says v items-present code value time
+    → length own + acceptedPuts requests replies ≡ value + ticketsBack requests replies
+
+-- "Over any calls from a fresh desk, the accepted puts number the items present plus all tickets handed back, both taken from the answers.":
+-- `fresh-accounts-balance`
+abbrev pub FreshAccountsBalance : Type 0
+FreshAccountsBalance =
     (requests : List Request) (replies : List Reply) (v : View) (code value time : ℕ) → Gives freshView requests replies v → Says v items-present code value time
     → acceptedPuts requests replies ≡ value + ticketsBack requests replies

@@ -45,6 +45,18 @@ pub record View : Type 0 where
   -- the ticket of the item in a channel at a timestamp
   pub item : (channel timestamp : ℕ) → Option ℕ
 
+-- a set of pairs "of channel and timestamp"
+abbrev pub Pairs : Type 0
+Pairs = (channel timestamp : ℕ) → Bool
+
+-- all of them: "the items present"
+abbrev pub everything : Pairs
+everything channel timestamp = true
+
+-- those with a timestamp below a bound: "Every present item with a smaller timestamp"
+abbrev pub below : ℕ → Pairs
+below bound channel timestamp = ltb timestamp bound
+
 -- ---- how a view changes: one thing, and all else stays
 
 -- the same but at one number
@@ -132,6 +144,13 @@ abbrev pub noticing : ℕ → ℕ → Connection → Connection
 noticing channel timestamp =
     ifInput (λ thread from mark seen. input thread from mark (cond (eqb from channel) (at seen timestamp (noticed (seen timestamp))) seen))
 
+-- items leave a channel: "When an item leaves the desk, both are cleared for its place on every connection.", and a timestamp without an item is
+-- "CONSUMED if below the mark; otherwise ABSENT"
+abbrev pub forgetting : Pairs → Connection → Connection
+forgetting gone =
+    ifInput (λ thread from mark seen. input thread from mark
+    (λ timestamp. cond (gone from timestamp) (cond (ltb timestamp mark) Consumed Absent) (seen timestamp)))
+
 -- what a new input connection with this mark sees of a channel: "CONSUMED if below the mark; otherwise ABSENT if the channel has no such item";
 -- otherwise UNSEEN, for nothing was got through it
 abbrev pub unseenIf : Option ℕ → State
@@ -207,10 +226,10 @@ abbrev pub InLine : List Item → Type 0
 InLine [] = Unit {0}
 InLine (first ∷ items) = ((item : Item) → item ∈ items → Before first item) × InLine items
 
--- these are the present items below the bound, in line
-pub record Listed (v : View) (bound : ℕ) (items : List Item) : Type 0 where
+-- these are the present items of a set of pairs, in line
+pub record Listed (v : View) (among : Pairs) (items : List Item) : Type 0 where
   pub in-line : InLine items
-  pub exactly : (item : Item) → (item ∈ items) ↔ (IsPresent v item × (item .timestamp < bound))
+  pub exactly : (item : Item) → (item ∈ items) ↔ (IsPresent v item × (among (item .channel) (item .timestamp) ≡ true))
 
 abbrev pub tickets : List Item → List ℕ
 tickets items = map (λ (item : Item). item .ticket) items
@@ -293,7 +312,7 @@ taken v connection timestamp =
 
 -- 8: "64 items present"
 abbrev pub desk-full : View → Refusal
-desk-full v = refuse 8 ((items : List Item) × Listed v never items × (length items ≡ 64))
+desk-full v = refuse 8 ((items : List Item) × Listed v everything items × (length items ≡ 64))
 
 -- 9: "the table has no free place". "Threads 16 (0..15), channels 8 (0..7), connections 32 (0..31), both directions together"
 abbrev pub table-full : ℕ → (ℕ → Type 0) → Refusal
@@ -311,7 +330,7 @@ not-open v connection timestamp = refuse 11 (stateOn (v .connection connection) 
 abbrev pub slice-short : View → (ℕ → Type 0) → List ℕ → Refusal
 slice-short v IsBound slice = record {
   code = 12;
-  Answers = λ value time. (bound : ℕ) × (items : List Item) × IsBound bound × Listed v bound items × (length slice < length items) × (value ≡ length items) × (time ≡ 0);
+  Answers = λ value time. (bound : ℕ) × (items : List Item) × IsBound bound × Listed v (below bound) items × (length slice < length items) × (value ≡ length items) × (time ≡ 0);
 }
 
 -- ---- what an accepted call leads to
@@ -337,11 +356,19 @@ withItem v channel timestamp ticket =
 abbrev pub ended : View → ℕ → View
 ended v thread = withConnections (withThread v thread none) (λ connection. freedFrom thread (v .connection connection))
 
--- "Every present item with a smaller timestamp leaves the desk." "On every input connection the mark then becomes the larger of itself and the bound."
+-- an item "leaves the desk", here every item of a set of pairs; no mark moves
+abbrev pub left : View → Pairs → View
+left v gone =
+    withItems (withConnections v (λ connection. forgetting gone (v .connection connection)))
+    (λ channel timestamp. cond (gone channel timestamp) none (v .item channel timestamp))
+
+-- "On every input connection the mark then becomes the larger of itself and the bound.": no item leaves by that
+abbrev pub raised : View → ℕ → View
+raised v bound = withConnections v (λ connection. consumedBelow bound (v .connection connection))
+
+-- "Every present item with a smaller timestamp leaves the desk.", and then the marks
 abbrev pub swept : View → ℕ → View
-swept v bound =
-    withItems (withConnections v (λ connection. consumedBelow bound (v .connection connection)))
-    (λ channel timestamp. cond (ltb timestamp bound) none (v .item channel timestamp))
+swept v bound = raised (left v (below bound)) bound
 
 -- ---- the calls
 
@@ -396,7 +423,7 @@ deedRow v thread (ConsumeUntil connection timestamp) =
 abbrev pub sweepRow : View → (ℕ → Type 0) → List ℕ → Row
 sweepRow v IsBound slice =
     row (slice-short v IsBound slice ∷ [])
-    (λ o. (bound : ℕ) × (items : List Item) × IsBound bound × Listed v bound items
+    (λ o. (bound : ℕ) × (items : List Item) × IsBound bound × Listed v (below bound) items
     × (o ≡ done (length items) bound (swept v bound) (tickets items ++ drop (length items) slice)))
 
 -- a call that names a thread is first asked whether it lives; a sweep names none
@@ -443,7 +470,7 @@ askedOf v strong-bound = asked [] (λ value time. (value ≡ 0) × StrongBound v
 askedOf v (state-of connection timestamp) =
     asked (no-connection v connection ∷ no-input v connection ∷ no-timestamp timestamp ∷ [])
     (λ value time. (value ≡ stateNumber (stateOn (v .connection connection) timestamp)) × (time ≡ 0))
-askedOf v items-present = asked [] (λ value time. (items : List Item) × Listed v never items × (value ≡ length items) × (time ≡ 0))
+askedOf v items-present = asked [] (λ value time. (items : List Item) × Listed v everything items × (value ≡ length items) × (time ≡ 0))
 
 abbrev pub Says : View → Question → (code value time : ℕ) → Type 0
 Says v question code value time =

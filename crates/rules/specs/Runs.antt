@@ -1,7 +1,7 @@
 -- Runs: the calls that a program can make, the replies that it gets, and what it could still get. Assumes nothing.
 use mathlib.Core.Path.{_≡_}
 use mathlib.Core.Bool.{Bool, false, cond, _&&_}
-use mathlib.Core.List.{List, [], _∷_}
+use mathlib.Core.List.{List, [], _∷_, sum, zipWith}
 use mathlib.Core.Option.{some}
 use Prim.Native.Nat.{ℕ, _+_}
 use lib.Dec.{eqb}
@@ -15,9 +15,15 @@ pub data Run : View → View → Type 0 where
   stop : {v : View} → Run v v
   next : {v w : View} (call : Call) (o : Outcome) → Passable call → Does v call o → Run (o .view) w → Run v w
 
--- "From a fresh desk, after any calls"
-abbrev pub Reachable : View → Type 0
-Reachable v = Run freshView v
+-- where runs start: "A fresh desk has thread 0 with virtual time 0 and nothing else."
+pub data Start : View → Type 0 where
+  fresh : Start freshView
+
+-- "From a fresh desk, after any calls", and from any other start
+pub record Reachable (v : View) : Type 0 where
+  pub start : View
+  pub starts : Start start
+  pub run : Run start v
 
 -- "further run of accepted calls other than sweeps"
 pub data Further : View → View → Type 0 where
@@ -67,15 +73,18 @@ pub data Gives : View → List Request → List Reply → View → Type 0 where
 abbrev pub ifAccepted : Reply → Bool → ℕ → ℕ
 ifAccepted reply counts number = cond (eqb (reply .code) 0 && counts) number 0
 
-unfoldable pub acceptedPuts : List Request → List Reply → ℕ
-acceptedPuts [] replies = 0
-acceptedPuts (request ∷ requests) [] = 0
-acceptedPuts (make call ∷ requests) (reply ∷ replies) = ifAccepted reply (isPut call) 1 + acceptedPuts requests replies
-acceptedPuts (ask question ∷ requests) (reply ∷ replies) = acceptedPuts requests replies
+-- an accepted put counts for one; a question is "never counted"
+abbrev pub putCount : Request → Reply → ℕ
+putCount (make call) reply = ifAccepted reply (isPut call) 1
+putCount (ask question) reply = 0
 
--- the tickets that accepted sweeps handed back, by the values of their answers
+unfoldable pub acceptedPuts : List Request → List Reply → ℕ
+acceptedPuts requests replies = sum _+_ 0 (zipWith putCount requests replies)
+
+-- an accepted sweep counts for the tickets that it handed back, by the value of its answer
+abbrev pub backCount : Request → Reply → ℕ
+backCount (make call) reply = ifAccepted reply (isSweep call) (reply .value)
+backCount (ask question) reply = 0
+
 unfoldable pub ticketsBack : List Request → List Reply → ℕ
-ticketsBack [] replies = 0
-ticketsBack (request ∷ requests) [] = 0
-ticketsBack (make call ∷ requests) (reply ∷ replies) = ifAccepted reply (isSweep call) (reply .value) + ticketsBack requests replies
-ticketsBack (ask question ∷ requests) (reply ∷ replies) = ticketsBack requests replies
+ticketsBack requests replies = sum _+_ 0 (zipWith backCount requests replies)
