@@ -1,11 +1,11 @@
 -- The checks of each call agree with the refusals that the view names. Assumes nothing.
 use Rattle.obeys.proofs.Basis.{_∙_, _≡_, ap, refl, subst, sym, false, true, _⊎_, inl, inr, ⊎-elim, Option·none-ne-some, Option·some-injective, none, List, _<_, _≤_, ℕ, arith, eqb, ltb, length, eq-eqb, leb-false, leb-true}
-use Rattle.obeys.proofs.Basis.{ltb-false, ltb-true, count, has, lowestFree, count-le, free-below, free-lacks, Call, by, sweep, isOpen, Strong, Weak, AttachInput, AttachOutput, Channel, Consume}
-use Rattle.obeys.proofs.Basis.{ConsumeUntil, Detach, End, Get, NewThread, Put, Set, State, Which, Earliest, Latest, Named, inward, never, outward, Found, At, Nothing, true-not-false, placeOf, state}
-use Rattle.obeys.proofs.Basis.{connectionAt, inUse, isConnection, isInput, isLiving, used-below, itemsBelow, channel-exists, checks, connection-goes, connection-owned, isFound, item-fits, item-found, item-open}
-use Rattle.obeys.proofs.Basis.{place-free, slice-long, soughtBy, thread-lives, time-visible, timestamp-absent, timestamp-given, which-given, connectionsOf, itemsOf, threadsOf, strongBound, visibleTime}
-use Rattle.obeys.proofs.Basis.{weakBound, Desk, Connection, FreeChannel, FreeConnection, FreeThread, Listed, Lowest, desk-full, inputFrom, named-never, no-channel, no-input, no-output, no-thread, no-timestamp, not-its-own}
-use Rattle.obeys.proofs.Basis.{not-open, nothing-unseen, outputTo, rule, slice-short, stateOn, table-full, taken, too-early, unused, DeskInOrder, viewOf}
+use Rattle.obeys.proofs.Basis.{ltb-false, ltb-true, count, has, lowestFree, count-le, free-below, free-lacks, Call, by, sweep, isOpen, Strong, Weak, AttachInput, AttachOutput, Channel, Consume, ConsumeUntil, Detach, End}
+use Rattle.obeys.proofs.Basis.{Get, NewThread, Put, Set, State, Which, Earliest, Latest, Named, inward, never, outward, Found, At, Nothing, true-not-false, placeOf, state, connectionAt, inUse, isConnection, isInput}
+use Rattle.obeys.proofs.Basis.{isLiving, used-below, itemsBelow, channel-exists, checks, connection-goes, connection-owned, isFound, item-fits, item-found, item-open, place-free, slice-long, soughtBy, thread-lives}
+use Rattle.obeys.proofs.Basis.{time-visible, timestamp-absent, which-given, connectionsOf, itemsOf, threadsOf, strongBound, visibleTime, weakBound, Desk, Connection, FreeChannel, FreeConnection, FreeThread, Listed, Lowest}
+use Rattle.obeys.proofs.Basis.{desk-full, inputFrom, named-never, no-channel, no-input, no-output, no-thread, not-its-own, not-open, nothing-unseen, outputTo, rule, slice-short, stateOn, table-full, taken, too-early}
+use Rattle.obeys.proofs.Basis.{unused, DeskInOrder, viewOf, needs, refusal, refuse}
 use Rattle.rules.specs.Rules as Rules
 use Rattle.rules.proofs.OneList.{listed-one}
 use Rattle.obeys.proofs.Chosen.{place-found}

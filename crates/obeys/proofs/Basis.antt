@@ -15,8 +15,8 @@ pub use borrow.Author.Tests.{eq-eqb, eqb-false, eqb-true, le-leb, le-ltb, leb-fa
 unfoldable pub use Rattle.words.specs.Words.{count, has}
 pub use Rattle.words.specs.Words.{except, lowestFree, with, without}
 pub use Rattle.words.proofs.Digits.{has-from}
-pub use Rattle.words.proofs.Laws.{count-ext, count-le, count-none, count-without, free-below, free-lacks, has-except, has-none, has-with, has-without, has-wordOf, has-wordOf-in, except-at, except-lt, lowest-ext, lowest-holds}
-pub use Rattle.words.proofs.Laws.{lowest-none, lowest-reach, with-other, with-same, without-other, without-same, word-ext}
+pub use Rattle.words.proofs.Laws.{count-ext, count-le, count-none, count-without, free-below, free-lacks, has-except, has-none, has-with, has-without, has-wordOf, has-wordOf-in, except-at, lowest-ext, lowest-holds}
+pub use Rattle.words.proofs.Laws.{lowest-none, lowest-reach, with-other, with-same, without-other, without-same}
 pub use Rattle.calls.specs.Calls.{AllPassable, Call, Passable, by, sliceOf, sweep}
 pub use Rattle.calls.specs.Questions.{PassableRequests, Question, Request, ask, items-present, make, state-of, strong-bound, visible-time, weak-bound}
 pub use Rattle.calls.specs.States.{isOpen, isPending, isUnseen, stateNumber}
@@ -51,14 +51,14 @@ unfoldable pub use Rattle.tables.specs.Tables.{inUse, isInput, owns, readsFor}
 pub use Rattle.tables.specs.Tables.{Table, connectionAt, connectionPlaces, isConnection, isLiving, isPresent, itemAt, itemPlaces, table, threadAt, threadPlaces}
 unfoldable pub use Rattle.tables.specs.Times.{isAwaited, leastAwaited, leastKeep, leastOpen, leastTime, openTime, smallest}
 pub use Rattle.tables.proofs.Used.{used-below}
-unfoldable pub use Rattle.leaving.specs.Leaving.{firstOf, freedConnections, handedBack, ticketsInLine, isBelow, itemsBelow, ownedBy, sweptConnections, sweptItems}
-pub use Rattle.leaving.specs.Leaving.{rowsOf, sweptConnection}
+unfoldable pub use Rattle.leaving.specs.Leaving.{firstOf, freedConnections, handedBack, ticketsInLine, isBelow, itemsBelow, ownedBy, clearedItems, changedConnections}
+pub use Rattle.leaving.specs.Leaving.{raisedInput, rowsOf}
 pub use Rattle.leaving.proofs.Rows.{getD-rowsOf, length-rowsOf}
-unfoldable pub use Rattle.desk.specs.Calls.{adopted, after, attachedAs, checks, effect, ended, outcome, sliceAfter, step, stored, swept, told}
+unfoldable pub use Rattle.desk.specs.Calls.{adopted, after, attachedAs, checks, effect, ended, left, outcome, raisedTo, sliceAfter, step, stored, swept, told}
 pub use Rattle.desk.specs.Calls.{boundOf, channel-exists, connected, connection-goes, connection-owned, freeChannel, freeConnection, freeItem, freeThread, isFound, item-fits, item-found, item-open, becomesOpen, place-free, slice-long}
 pub use Rattle.desk.specs.Calls.{soughtBy, thread-lives, time-visible, timestamp-absent, timestamp-given, foundTold, which-given, withConnection}
 unfoldable pub use Rattle.desk.specs.Desk.{fresh}
-pub use Rattle.desk.specs.Desk.{connectionsOf, itemsOf, threadsOf, withChannels, withConnections, withItems, withThreads}
+pub use Rattle.desk.specs.Desk.{connectionsOf, itemsOf, threadsOf, withChannels, withConnections, withThreads}
 unfoldable pub use Rattle.desk.specs.Times.{strongBound, visibleTime, weakBound}
 pub use Rattle.desk.specs.declared.Desk.{Desk}
 pub use Rattle.desk.proofs.Outcome.{Passed, codes, passing}

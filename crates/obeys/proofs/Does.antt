@@ -1,10 +1,10 @@
 -- Each accepted call does what the view says, and so does each call. Assumes nothing.
 use Rattle.obeys.proofs.Basis.{_∙_, _≡_, ap, refl, sym, false, true, some, List, [], _∷_, _<_, suc, ℕ, arith, eqb, leb, ltb, length, eqb-true, leb-true, ltb-true, count, with-same, without-same, Call, Passable, by, sliceOf}
-use Rattle.obeys.proofs.Basis.{sweep, isOpen, isPending, AttachInput, AttachOutput, Channel, Consume, ConsumeUntil, Detach, End, Get, NewThread, Put, Set, Consumed, Open, Which, decided, Told, foundTold, inward, stateOf, Row}
-use Rattle.obeys.proofs.Basis.{Found, At, Nothing, Item, Passed, and-left, and-right, bool-cases, true-not-false, isUnseenAt, lies, placeOf, state, stateAt, connectionAt, isConnection, itemAt, owns, handedBack, itemsBelow}
-use Rattle.obeys.proofs.Basis.{adopted, attachedAs, boundOf, checks, effect, freeChannel, freeConnection, freeThread, isFound, becomesOpen, slice-long, sliceAfter, soughtBy, told, connectionsOf, itemsOf}
-use Rattle.obeys.proofs.Basis.{visibleTime, Desk, fewer-free, owned-below, used-inside, BoundOf, Connection, View, consumedBelow, done, inputFrom, outputTo, rule, seenAs, sweepRow, unused, DeskDoes, DeskInOrder, connectionOf}
-use Rattle.obeys.proofs.Basis.{viewOf}
+use Rattle.obeys.proofs.Basis.{sweep, isOpen, isPending, AttachInput, AttachOutput, Channel, Consume, ConsumeUntil, Detach, End, Get, NewThread, Put, Set, Consumed, Open, Which, decided, Told, foundTold, inward, stateOf}
+use Rattle.obeys.proofs.Basis.{Row, Found, At, Nothing, Item, Passed, and-left, and-right, bool-cases, true-not-false, isUnseenAt, lies, placeOf, state, stateAt, connectionAt, isConnection, itemAt, owns, handedBack}
+use Rattle.obeys.proofs.Basis.{itemsBelow, adopted, attachedAs, boundOf, checks, effect, freeChannel, freeConnection, freeThread, isFound, becomesOpen, slice-long, sliceAfter, soughtBy, told, connectionsOf, itemsOf}
+use Rattle.obeys.proofs.Basis.{visibleTime, Desk, fewer-free, owned-below, used-inside, BoundOf, Connection, View, consumedBelow, done, inputFrom, outputTo, rule, seenAs, sweepRow, unused, DeskDoes, DeskInOrder}
+use Rattle.obeys.proofs.Basis.{connectionOf, viewOf}
 use native.Mathlib.Numerals.{add-one}
 use Rattle.rules.specs.Rules.{withConnection}
 use Rattle.desk.specs.Calls as Calls
@@ -82,14 +82,13 @@ module _ (d : Desk) (o : DeskInOrder d) where
 
   -- ---- sweeps
 
-  sweeps : (Bound : ℕ → Type 0) (bound : ℕ) (slice : List ℕ) → Bound bound → DeskInOrder (Calls.swept d bound)
-      → leb (count (itemsBelow (itemsOf d) bound)) (length slice) ≡ true
+  sweeps : (Bound : ℕ → Type 0) (bound : ℕ) (slice : List ℕ) → Bound bound → leb (count (itemsBelow (itemsOf d) bound)) (length slice) ≡ true
       → sweepRow (viewOf d) Bound slice .Accepts
       (done (count (itemsBelow (itemsOf d) bound)) bound (viewOf (Calls.swept d bound)) (handedBack (d .items) (itemsBelow (itemsOf d) bound) slice))
   unfolding handedBack
-  sweeps Bound bound slice is o′ long =
+  sweeps Bound bound slice is long =
       let those = below d o bound in
-      (bound, those .items, is, listed d o bound, rw (those .counts, those .hands, long, view-swept d o bound o′))
+      (bound, those .items, is, listed d o bound, rw (those .counts, those .hands, long, view-swept d o bound))
 
   accepts : (call : Call) → Passable call → Passed d call
       → rule (viewOf d) call .Accepts (done (told d call .value) (told d call .time) (viewOf (effect d call)) (sliceAfter d call))
@@ -125,7 +124,7 @@ module _ (d : Desk) (o : DeskInOrder d) where
   accepts (by thread (ConsumeUntil connection timestamp)) fits p =
       quietly (by-row connection (owned-used d connection thread (p .held 3)) _ (consumedBelow (suc timestamp))
       (rw (add-one timestamp) (row-raised (itemsOf d) (connectionAt (connectionsOf d) connection) (suc timestamp) (eqb-true _ inward (p .held 4)))))
-  accepts (sweep bound slice) fits p = sweeps (BoundOf (viewOf d) bound) (boundOf d bound) slice (bound-is d o bound) (in-order-effect d o (sweep bound slice) fits p) (p .held 12)
+  accepts (sweep bound slice) fits p = sweeps (BoundOf (viewOf d) bound) (boundOf d bound) slice (bound-is d o bound) (p .held 12)
 
   -- ---- a refused call leaves the slice
 

@@ -2,7 +2,8 @@
 -- that set: so for those below a bound, and for all. Assumes nothing.
 use Rattle.obeys.proofs.Basis.{_∙_, _≡_, ap, ap₂, refl, subst, sym, false, true, _↔_, inl, inr, ⊎-elim, List, [], _∷_, _<_, _≤_, suc, zero, ℕ, ℕ-discrete, le-refl, arith, eqb, ltb, getD, length, eq-eqb, eqb-false, eqb-true}
 use Rattle.obeys.proofs.Basis.{le-ltb, lt-ltb, ltb-false, ltb-true, ne-eqb, count, has, without, count-ext, count-none, count-without, has-none, has-wordOf, has-wordOf-in, without-other, before, noItem, Found, At, Nothing}
-use Rattle.obeys.proofs.Basis.{Item, and-both, and-left, and-right, bool-cases, Table, isPresent, itemAt, firstOf, ticketsInLine, isBelow, itemsBelow, itemsOf, Desk, Before, InLine, IsPresent, Listed, _∈_, tickets, DeskInOrder, viewOf}
+use Rattle.obeys.proofs.Basis.{Item, and-both, and-left, and-right, bool-cases, Table, isPresent, itemAt, firstOf, ticketsInLine, isBelow, itemsBelow, itemsOf, Desk, Before, InLine, IsPresent, Listed, _∈_, tickets}
+use Rattle.obeys.proofs.Basis.{DeskInOrder, viewOf}
 use Rattle.rules.specs.Rules as Rules
 use Rattle.rules.specs.Rules.{Pairs}
 use Rattle.obeys.proofs.Words.{without-apart, without-was}
@@ -159,11 +160,11 @@ module _ (d : Desk) (o : DeskInOrder d) (among : Pairs) (places : ℕ) (are : Pl
 
 -- ---- those below a bound, and all
 
-pub items-below-at : (items : Table Item) (bound : ℕ) {place : ℕ} → place < 64 → has (itemsBelow items bound) place ≡ isBelow items bound place
+items-below-at : (items : Table Item) (bound : ℕ) {place : ℕ} → place < 64 → has (itemsBelow items bound) place ≡ isBelow items bound place
 unfolding itemsBelow
 items-below-at items bound inside = has-wordOf-in (isBelow items bound) inside
 
-below-places : (d : Desk) (bound : ℕ) → PlacesOf d (Rules.below bound) (itemsBelow (itemsOf d) bound)
+pub below-places : (d : Desk) (bound : ℕ) → PlacesOf d (Rules.below bound) (itemsBelow (itemsOf d) bound)
 unfolding itemsBelow isBelow
 below-places d bound place = (
   λ held. (let inside-low = sym (has-wordOf (isBelow (itemsOf d) bound) 64 place) ∙ held in

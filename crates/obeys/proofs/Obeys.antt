@@ -1,6 +1,7 @@
 -- The desk's replies are those of the rules, and what holds of every run under the rules holds of the desk. Assumes nothing.
-use Rattle.obeys.proofs.Basis.{_≡_, _∙_, ap, subst, inl, inr, length, List, [], _∷_, AllPassable, Call, sweep, PassableRequests, Request, ask, items-present, make, Bound, Strong, Weak, never, ℕ, _+_, boundOf, after, step, fresh, Desk, View, freshView, DeskAccountsBalance, DeskBounds}
-use Rattle.obeys.proofs.Basis.{DeskBoundsNeverFall, DeskGives, DeskGivesNoOther, DeskSweepsExactly, ReachedReachable, Reached, deskAfter, outcomeOf, repliesOf, viewOf}
+use Rattle.obeys.proofs.Basis.{_≡_, _∙_, ap, subst, inl, inr, length, List, [], _∷_, AllPassable, Call, sweep, PassableRequests, Request, ask, items-present, make, Bound, Strong, Weak, never, ℕ, _+_, boundOf, after, step}
+use Rattle.obeys.proofs.Basis.{fresh, Desk, View, freshView, DeskAccountsBalance, DeskBounds, DeskBoundsNeverFall, DeskGives, DeskGivesNoOther, DeskSweepsExactly, ReachedReachable, Reached, deskAfter, outcomeOf, repliesOf}
+use Rattle.obeys.proofs.Basis.{viewOf}
 use Rattle.calls.specs.Calls.{put}
 use Rattle.rules.specs.Rules.{everything, Item, Listed, Says}
 use Rattle.rules.specs.Runs.{Run, stop, next, Gives, acceptedPuts}

@@ -1,5 +1,7 @@
 -- A step by its checks; a call leads from a reached desk to a reached desk, so a law of every reached desk needs one law of a step. Assumes nothing.
-use Rattle.obeys.proofs.Basis.{AllPassable, Call, Desk, DeskStart, List, Pass, Passable, Passed, Reached, [], _++_, _∙_, _∷_, _≡_, accepted, after, ap, bool-cases, checks, codes, decided, effect, eqb, eqb-true, fresh, fresh-desk, outcome, pass-decided, passed, passing, refl, step, subst, told}
+use Rattle.obeys.proofs.Basis.{AllPassable, Call, Desk, List, Pass, Passable, Passed, Reached, [], _++_, _∙_, _∷_, _≡_, accepted, after, ap, bool-cases, checks, codes, decided, effect, eqb, eqb-true, fresh, outcome}
+use Rattle.obeys.proofs.Basis.{pass-decided, passed, passing, refl, step, subst, told}
+use Rattle.obeys.specs.Reached.{DeskStart, fresh-desk}
 
 -- ---- a step
 

@@ -1,6 +1,6 @@
 -- The desk answers each question as its view says. Assumes nothing.
-use Rattle.obeys.proofs.Basis.{ap, refl, sym, inl, inr, Question, items-present, state-of, strong-bound, visible-time, weak-bound, stateNumber, coded, Pass, pass-decided, Desk, Connection, Says}
-use Rattle.obeys.proofs.Basis.{askedOf, stateOn, DeskSays, DeskInOrder, viewOf}
+use Rattle.obeys.proofs.Basis.{ap, refl, sym, inl, inr, Question, items-present, state-of, strong-bound, visible-time, weak-bound, stateNumber, coded, Pass, pass-decided, Desk, Connection, Says, askedOf, stateOn, DeskSays}
+use Rattle.obeys.proofs.Basis.{DeskInOrder, viewOf, _≡_, never, true}
 use Rattle.desk.specs.Questions.{questionChecks, questionTold, reply}
 use Rattle.obeys.proofs.Order.{every-desk-in-order}
 use Rattle.obeys.proofs.Lookup.{unused-view, input-view, used-not-free, used-reads}

@@ -1,156 +1,154 @@
--- The view after a sweep: no item below its bound is left, and below it all is CONSUMED. Assumes nothing.
-use Rattle.obeys.proofs.Basis.{_∙_, _≡_, ap, refl, sym, Bool, _&&_, and-true, cond, false, true, none, _<_, _≤_, ℕ, arith, eqb, leb, ltb, eqb-true, le-ltb, leb-false, lt-ltb, ltb-false, ltb-true, has, except, except-at, Absent}
-use Rattle.obeys.proofs.Basis.{Consumed, cleared, raised, inward, noConnection, byName, stateOf, Row, and-both, bool-cases, true-not-false, placeOf, state, connectionAt, isConnection, isInput, itemAt, isBelow, itemsBelow}
-use Rattle.obeys.proofs.Basis.{sweptConnection, sweptConnections, sweptItems, getD-rowsOf, swept, connectionsOf, itemsOf, Desk, used-inside, Connection, consumedBelow, DeskInOrder, connectionOf, itemOf, viewOf}
+-- The view after items have left, by any set of pairs that these items are, and after marks are raised: a sweep is the one and then the other.
+-- Assumes nothing.
+use Rattle.obeys.proofs.Basis.{_∙_, _≡_, ap, ap₂, refl, sym, Bool, and-true, cond, false, true, none, _<_, ℕ, eqb, leb, ltb, eqb-true, le-leb, leb-false, ltb-false, ltb-true, has, except-at, Absent, Consumed, cleared}
+use Rattle.obeys.proofs.Basis.{raised, inward, stateOf, List, getD, noConnection, connectionPlaces, inUse, changedConnections, Row, bool-cases, true-not-false, placeOf, state, connectionAt, isConnection, itemsBelow}
+use Rattle.obeys.proofs.Basis.{raisedInput, left, raisedTo, swept, connectionsOf, itemsOf, Desk, Connection, View, unused, consumedBelow, DeskInOrder, connectionOf, itemOf, viewOf}
 use Rattle.rules.specs.Rules as Rules
-use Rattle.rules.proofs.Leaving.{swept-at}
+use Rattle.rules.specs.Rules.{Pairs, forgetting}
 use Rattle.obeys.proofs.Chosen.{place-found}
 use Rattle.obeys.proofs.Frame.{view-ext}
 use Rattle.obeys.proofs.Lookup.{used-view, unused-view, input-row, output-row, Holds, holds-of, same-place}
-use Rattle.obeys.proofs.Rows.{input-seen, ltb-max}
-use Rattle.obeys.proofs.Listed.{items-below-at}
-use Rattle.obeys.proofs.Order.Tables.{thinned-row}
-use Rattle.obeys.proofs.Words.{except-was, except-kept, except-stays}
+use Rattle.obeys.proofs.Rows.{input-seen, row-raised}
+use Rattle.obeys.proofs.Listed.{PlacesOf, below-places}
+use Rattle.obeys.proofs.Order.Desks.{changed-row, item-stays, left-in-order}
+use Rattle.obeys.proofs.Words.{not-then, except-was, except-kept, except-stays}
 
-module _ (d : Desk) (o : DeskInOrder d) (bound : ℕ) (o′ : DeskInOrder (swept d bound)) where
+-- ---- every connection's row changes by a rule
+
+connection-changed : (d e : Desk) (rule : Row → Row) (change : Connection → Connection)
+    → e .attached ≡ d .attached
+    → e .connections ≡ changedConnections (connectionsOf d) rule
+    → change unused ≡ unused
+    → ((row : Row) → connectionOf (itemsOf e) (rule row) ≡ change (connectionOf (itemsOf d) row))
+    → (k : ℕ) → viewOf e .connection k ≡ change (viewOf d .connection k)
+connection-changed d e rule change attached rows free looks k =
+    let same = ap (λ (word : ℕ). inUse word k connectionPlaces) attached in
+    let at-k = ap (λ (l : List Row). getD l k noConnection) rows in
+    bool-cases (isConnection (connectionsOf d) k)
+    (λ used. used-view e k (same ∙ used)
+    ∙ ap (connectionOf (itemsOf e)) (at-k ∙ changed-row (connectionsOf d) rule k used)
+    ∙ looks (connectionAt (connectionsOf d) k)
+    ∙ sym (ap change (used-view d k used)))
+    (λ not. unused-view e k (same ∙ not) ∙ sym free ∙ sym (ap change (unused-view d k not)))
+
+-- ---- items leave
+
+-- those of a set of pairs, whose places a word has
+module _ (d : Desk) (o : DeskInOrder d) (pairs : Pairs) (gone : ℕ) (are : PlacesOf d pairs gone) where
   abbrev e : Desk
-  e = swept d bound
+  e = left d gone
 
-  abbrev gone : ℕ
-  gone = itemsBelow (itemsOf d) bound
-
-  -- ---- the items
-
-  -- an item that is left is as it was
-  left-item : (p : ℕ) → has (except (d .present) gone) p ≡ true → itemAt (itemsOf e) p ≡ itemAt (itemsOf d) p
-  unfolding swept sweptItems
-  left-item p held = thinned-row (o .items) (omega arith) gone p held
+  abbrev o′ : DeskInOrder e
+  o′ = left-in-order o gone
 
   module _ {p channel timestamp : ℕ} where
-    -- what holds a pair at or above the bound does not leave
-    stays : bound ≤ timestamp → Holds d o p channel timestamp → has gone p ≡ false
-    unfolding isBelow
-    stays above h =
-        items-below-at (itemsOf d) bound (h .inside) ∙ rw (h .there) (le-ltb (itemAt (itemsOf d) p .timestamp) bound (omega (arith, h .timestamp-is)))
+    goes : Holds d o p channel timestamp → pairs channel timestamp ≡ has gone p
+    goes h =
+        let here = ap₂ pairs (h .channel-is) (h .timestamp-is) in
+        bool-cases (pairs channel timestamp)
+        (λ leaves. leaves ∙ sym (are p .1 (h .inside, h .there, here ∙ leaves)))
+        (λ stays. stays ∙ sym (not-then (λ held. sym here ∙ are p .0 held .2) stays))
 
-    holds-still : bound ≤ timestamp → Holds d o p channel timestamp → Holds e o′ p channel timestamp
-    unfolding swept
-    holds-still above h =
-        let held = except-stays (d .present) gone p (h .inside) (h .there) (stays above h) in
-        record { inside = h .inside; there = held; channel-is = rw (left-item p held) (h .channel-is); timestamp-is = rw (left-item p held) (h .timestamp-is) }
+    holds-still : pairs channel timestamp ≡ false → Holds d o p channel timestamp → Holds e o′ p channel timestamp
+    unfolding left
+    holds-still stays h =
+        let held = except-stays (d .present) gone p (h .inside) (h .there) (sym (goes h) ∙ stays) in
+        record { inside = h .inside; there = held; channel-is = rw (item-stays o gone p held) (h .channel-is); timestamp-is = rw (item-stays o gone p held) (h .timestamp-is) }
 
     held-before : Holds e o′ p channel timestamp → Holds d o p channel timestamp
-    unfolding swept
+    unfolding left
     held-before h =
-        let same = left-item p (h .there) in
+        let same = item-stays o gone p (h .there) in
         record { inside = h .inside; there = except-was (d .present) gone p (h .there); channel-is = rw same at (h .channel-is); timestamp-is = rw same at (h .timestamp-is) }
 
-    -- and what is left is at or above it
-    left-above : Holds e o′ p channel timestamp → timestamp < bound → ⊥
-    unfolding swept isBelow
-    left-above h below =
-        let was = held-before h in
-        true-not-false
-        (items-below-at (itemsOf d) bound (h .inside) ∙ and-both (was .there) (lt-ltb (itemAt (itemsOf d) p .timestamp) bound (omega (arith, was .timestamp-is))))
-        (except-kept (d .present) gone p (h .there))
+    -- what is held afterwards is not of the pairs
+    held-stays : Holds e o′ p channel timestamp → pairs channel timestamp ≡ false
+    unfolding left
+    held-stays h = goes (held-before h) ∙ except-kept (d .present) gone p (h .there)
 
-  place-same : (channel timestamp : ℕ) → bound ≤ timestamp → placeOf (itemsOf e) channel timestamp ≡ placeOf (itemsOf d) channel timestamp
-  place-same channel timestamp above = same-place d o e o′ channel timestamp (λ p. holds-still above) (λ p. held-before)
+  module _ (channel timestamp : ℕ) where
+    place-same : pairs channel timestamp ≡ false → placeOf (itemsOf e) channel timestamp ≡ placeOf (itemsOf d) channel timestamp
+    place-same stays = same-place d o e o′ channel timestamp (λ p. holds-still stays) (λ p. held-before)
 
-  -- below the bound there is none
-  none-left : (channel timestamp : ℕ) → timestamp < bound → itemOf (itemsOf e) channel timestamp ≡ none
-  none-left channel timestamp below =
-      let p : ℕ = placeOf (itemsOf e) channel timestamp in
-      bool-cases (ltb p 64)
-      (λ q. absurd (left-above (holds-of e o′ p channel timestamp (place-found (itemsOf e) channel timestamp (ltb-true p 64 q))) below))
-      (λ q. rw q)
+    place-none : pairs channel timestamp ≡ true → ltb (placeOf (itemsOf e) channel timestamp) 64 ≡ false
+    place-none leaves =
+        let p : ℕ = placeOf (itemsOf e) channel timestamp in
+        bool-cases (ltb p 64)
+        (λ q. absurd (true-not-false leaves (held-stays (holds-of e o′ p channel timestamp (place-found (itemsOf e) channel timestamp (ltb-true p 64 q))))))
+        (λ q. q)
 
-  item-same : (channel timestamp : ℕ) → bound ≤ timestamp → itemOf (itemsOf e) channel timestamp ≡ itemOf (itemsOf d) channel timestamp
-  unfolding swept
-  item-same channel timestamp above =
-      let p : ℕ = placeOf (itemsOf d) channel timestamp in
-      rw (place-same channel timestamp above)
-      (bool-cases (ltb p 64)
-      (λ q. let h = holds-of d o p channel timestamp (place-found (itemsOf d) channel timestamp (ltb-true p 64 q)) in
-      rw (q, left-item p (holds-still above h .there)))
-      (λ q. rw q))
+    item-same : pairs channel timestamp ≡ false → itemOf (itemsOf e) channel timestamp ≡ itemOf (itemsOf d) channel timestamp
+    unfolding left
+    item-same stays =
+        let p : ℕ = placeOf (itemsOf d) channel timestamp in
+        rw (place-same stays)
+        (bool-cases (ltb p 64)
+        (λ q. let h = holds-of d o p channel timestamp (place-found (itemsOf d) channel timestamp (ltb-true p 64 q)) in
+        rw (q, item-stays o gone p (holds-still stays h .there)))
+        (λ q. rw q))
 
-  swept-items : (c n : ℕ) → viewOf e .item c n ≡ cond (ltb n bound) none (viewOf d .item c n)
-  unfolding viewOf
-  swept-items c n =
-      bool-cases (ltb n bound) (λ q. rw q (none-left c n (ltb-true n bound q))) (λ q. rw q (item-same c n (ltb-false n bound q)))
+    left-item : viewOf e .item channel timestamp ≡ cond (pairs channel timestamp) none (viewOf d .item channel timestamp)
+    unfolding viewOf
+    left-item =
+        bool-cases (pairs channel timestamp) (λ leaves. rw (leaves, place-none leaves)) (λ stays. rw stays (item-same stays))
 
-  -- ---- the connections
+  -- ---- what a connection sees of them
 
-  -- at or above the bound a state stays, whatever the mark
-  rest-same : (row : Row) (n : ℕ) → bound ≤ n
-      → cond (leb 64 (placeOf (itemsOf e) (row .channel) n)) Absent
-      (byName (has (except (row .opened) gone) (placeOf (itemsOf e) (row .channel) n)) (has (except (row .consumed) gone) (placeOf (itemsOf e) (row .channel) n)))
-      ≡ cond (leb 64 (placeOf (itemsOf d) (row .channel) n)) Absent
-      (byName (has (row .opened) (placeOf (itemsOf d) (row .channel) n)) (has (row .consumed) (placeOf (itemsOf d) (row .channel) n)))
-  rest-same row n above =
-      rw (place-same (row .channel) n above)
+  -- a state stays where its item does
+  state-same : (row : Row) (n : ℕ) → pairs (row .channel) n ≡ false → state (itemsOf e) (cleared row gone) n ≡ state (itemsOf d) row n
+  unfolding state stateOf cleared
+  state-same row n stays =
+      rw (place-same (row .channel) n stays)
       (bool-cases (leb 64 (placeOf (itemsOf d) (row .channel) n))
       (λ q. rw q)
       (λ q. let p : ℕ = placeOf (itemsOf d) (row .channel) n in
       let inside : p < 64 = leb-false 64 p q in
       let h = holds-of d o p (row .channel) n (place-found (itemsOf d) (row .channel) n inside) in
-      let kept : has gone p ≡ false = stays above h in
+      let kept : has gone p ≡ false = sym (goes h) ∙ stays in
       rw (except-at (row .opened) gone inside, except-at (row .consumed) gone inside, kept, and-true (has (row .opened) p), and-true (has (row .consumed) p))))
 
-  seen-swept : (row : Row) (n : ℕ) → state (itemsOf e) (raised (cleared row gone) bound) n ≡ cond (ltb n bound) Consumed (state (itemsOf d) row n)
-  unfolding state stateOf raised cleared
-  seen-swept row n =
-      ltb-max n (row .mark) bound Consumed _
-      ∙ bool-cases (ltb n bound)
-      (λ q. rw q)
-      (λ q. rw q (ap (cond (ltb n (row .mark)) Consumed) (rest-same row n (ltb-false n bound q))))
+  -- and without an item the mark decides
+  state-none : (row : Row) (n : ℕ) → pairs (row .channel) n ≡ true → state (itemsOf e) (cleared row gone) n ≡ cond (ltb n (row .mark)) Consumed Absent
+  unfolding state stateOf cleared
+  state-none row n leaves = rw (le-leb 64 (placeOf (itemsOf e) (row .channel) n) (ltb-false _ 64 (place-none (row .channel) n leaves)))
 
-  input-swept : (row : Row) → row .direction ≡ inward
-      → connectionOf (itemsOf e) (raised (cleared row gone) bound) ≡ consumedBelow bound (connectionOf (itemsOf d) row)
-  unfolding raised cleared
-  input-swept row reads =
-      input-row (itemsOf e) (raised (cleared row gone) bound) reads
-      ∙ input-seen (seen-swept row)
-      ∙ sym (ap (consumedBelow bound) (input-row (itemsOf d) row reads))
+  seen-left : (row : Row) (n : ℕ) → state (itemsOf e) (cleared row gone) n
+      ≡ cond (pairs (row .channel) n) (cond (ltb n (row .mark)) Consumed Absent) (state (itemsOf d) row n)
+  seen-left row n = bool-cases (pairs (row .channel) n) (λ leaves. rw leaves (state-none row n leaves)) (λ stays. rw stays (state-same row n stays))
 
-  output-swept : (row : Row) → eqb (row .direction) inward ≡ false
-      → connectionOf (itemsOf e) (cleared row gone) ≡ consumedBelow bound (connectionOf (itemsOf d) row)
+  row-left : (row : Row) → connectionOf (itemsOf e) (cleared row gone) ≡ forgetting pairs (connectionOf (itemsOf d) row)
   unfolding cleared
-  output-swept row writes =
-      output-row (itemsOf e) (cleared row gone) writes ∙ sym (ap (consumedBelow bound) (output-row (itemsOf d) row writes))
+  row-left row =
+      bool-cases (eqb (row .direction) inward)
+      (λ q. let reads : row .direction ≡ inward = eqb-true _ inward q in
+      input-row (itemsOf e) (cleared row gone) reads
+      ∙ input-seen (seen-left row)
+      ∙ sym (ap (forgetting pairs) (input-row (itemsOf d) row reads)))
+      (λ writes. output-row (itemsOf e) (cleared row gone) writes ∙ sym (ap (forgetting pairs) (output-row (itemsOf d) row writes)))
 
-  reads-as : (k : ℕ) → isConnection (connectionsOf d) k ≡ true → isInput (connectionsOf d) k ≡ eqb (connectionAt (connectionsOf d) k .direction) inward
-  unfolding isInput
-  reads-as k used = ap (λ (b : Bool). b && eqb (connectionAt (connectionsOf d) k .direction) inward) used
+  pub view-left : viewOf (left d gone) ≡ Rules.left (viewOf d) pairs
+  unfolding viewOf left
+  view-left = view-ext (λ t. refl) (λ c. refl) (connection-changed d e (λ row. cleared row gone) (forgetting pairs) refl refl refl row-left) left-item
 
-  -- a sweep raises marks, and clears the facts of items that leave
-  swept-row : (k : ℕ) → isConnection (connectionsOf d) k ≡ true
-      → connectionAt (connectionsOf e) k ≡ sweptConnection (isInput (connectionsOf d) k) bound gone (connectionAt (connectionsOf d) k)
-  unfolding swept sweptConnections
-  swept-row k used =
-      getD-rowsOf (λ j. sweptConnection (isInput (connectionsOf d) j) bound gone (connectionAt (connectionsOf d) j)) 32 k noConnection (used-inside (d .attached) used)
+-- ---- marks are raised
 
-  swept-used : (k : ℕ) → isConnection (connectionsOf d) k ≡ true
-      → connectionOf (itemsOf e) (connectionAt (connectionsOf e) k) ≡ consumedBelow bound (connectionOf (itemsOf d) (connectionAt (connectionsOf d) k))
-  swept-used k used =
-      let row : Row = connectionAt (connectionsOf d) k in
-      let by : Bool → Connection = λ b. connectionOf (itemsOf e) (sweptConnection b bound gone row) in
-      ap (connectionOf (itemsOf e)) (swept-row k used)
-      ∙ bool-cases (eqb (row .direction) inward)
-      (λ q. ap by (reads-as k used ∙ q) ∙ input-swept row (eqb-true _ inward q))
-      (λ q. ap by (reads-as k used ∙ q) ∙ output-swept row q)
+module _ (d : Desk) (bound : ℕ) where
+  row-raised-input : (row : Row) → connectionOf (itemsOf d) (raisedInput row bound) ≡ consumedBelow bound (connectionOf (itemsOf d) row)
+  row-raised-input row =
+      bool-cases (eqb (row .direction) inward)
+      (λ reads. ap (λ (b : Bool). connectionOf (itemsOf d) (cond b (raised row bound) row)) reads ∙ row-raised (itemsOf d) row bound (eqb-true _ inward reads))
+      (λ writes. ap (λ (b : Bool). connectionOf (itemsOf d) (cond b (raised row bound) row)) writes
+      ∙ output-row (itemsOf d) row writes
+      ∙ sym (ap (consumedBelow bound) (output-row (itemsOf d) row writes)))
 
-  swept-word : (k : ℕ) → isConnection (connectionsOf e) k ≡ isConnection (connectionsOf d) k
-  unfolding swept
-  swept-word k = refl
+  pub view-raised : viewOf (raisedTo d bound) ≡ Rules.raised (viewOf d) bound
+  unfolding viewOf raisedTo
+  view-raised = view-ext (λ t. refl) (λ c. refl) (connection-changed d (raisedTo d bound) (λ row. raisedInput row bound) (consumedBelow bound) refl refl refl row-raised-input) (λ c n. refl)
 
-  swept-connection : (k : ℕ) → viewOf e .connection k ≡ consumedBelow bound (viewOf d .connection k)
-  swept-connection k =
-      bool-cases (isConnection (connectionsOf d) k)
-      (λ q. used-view e k (swept-word k ∙ q) ∙ swept-used k q ∙ sym (ap (consumedBelow bound) (used-view d k q)))
-      (λ q. unused-view e k (swept-word k ∙ q) ∙ sym (ap (consumedBelow bound) (unused-view d k q)))
+-- ---- a sweep
 
-  pub view-swept : viewOf e ≡ Rules.swept (viewOf d) bound
-  unfolding viewOf swept
-  view-swept = view-ext (λ t. refl) (λ c. refl) swept-connection swept-items ∙ sym (swept-at (viewOf d) bound)
+pub view-swept : (d : Desk) → DeskInOrder d → (bound : ℕ) → viewOf (swept d bound) ≡ Rules.swept (viewOf d) bound
+unfolding swept
+view-swept d o bound =
+    view-raised (left d (itemsBelow (itemsOf d) bound)) bound
+    ∙ ap (λ (v : View). Rules.raised v bound) (view-left d o (Rules.below bound) (itemsBelow (itemsOf d) bound) (below-places d bound))

@@ -3,7 +3,7 @@ use mathlib.Core.List.{sum, zipWith}
 use Rattle.calls.specs.Questions.{Request}
 use Rattle.rules.proofs.Basis.{_≡_, sym, ap, subst, Bool, not, List, [], inl, inr, by-cases, ℕ, _+_, _≤_, ℕ-discrete, arith, length, Deed, Bound, Call, by, sweep, isPut, isSweep}
 use Rattle.rules.specs.Claims.{ItemsAreListed, AccountsBalance, FreshAccountsBalance}
-use Rattle.rules.specs.Rules.{everything, below, View, Item, Listed, Outcome, deedRow, rule, NoneOf, Does}
+use Rattle.rules.specs.Rules.{everything, below, View, Item, Listed, Outcome, rule, Does}
 use Rattle.rules.specs.Runs.{fresh, Run, stop, next, Reply, replyOf, Gives, ifAccepted, acceptedPuts, ticketsBack}
 use Rattle.rules.proofs.Clear.{Clear, cleared, not-refused}
 use Rattle.rules.proofs.Made.{Made, quietly, puts, made}

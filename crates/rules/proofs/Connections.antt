@@ -1,5 +1,6 @@
 -- One connection: under every change what it sees is in order, and no state goes back. Assumes nothing.
-use Rattle.rules.proofs.Basis.{_≡_, _∙_, refl, sym, ap, subst, Bool, true, false, cond, _⊎_, ⊎-elim, _≢_, Option, none, some, Option·some-injective, Option·none-ne-some, ℕ, max, _≤_, _<_, arith, le-refl, eqb, ltb, eqb-false, eq-eqb, ne-eqb, lt-ltb, le-ltb, State, Absent, Unseen, Open, Consumed, stateNumber}
+use Rattle.rules.proofs.Basis.{_≡_, _∙_, refl, sym, ap, subst, Bool, true, false, cond, _⊎_, ⊎-elim, _≢_, Option, none, some, Option·some-injective, Option·none-ne-some, ℕ, max, _≤_, _<_, arith, le-refl, eqb, ltb}
+use Rattle.rules.proofs.Basis.{eqb-false, eq-eqb, ne-eqb, lt-ltb, le-ltb, State, Absent, Unseen, Open, Consumed, stateNumber}
 use Rattle.rules.specs.Claims.{ConnectionFits, Living, Sees}
 use Rattle.rules.specs.Rules.{never, Pairs, Connection, unused, output, input, View, at, stateOn, seenAs, consumedBelow, noticed, noticing, forgetting, firstSeen, freedFrom, VisibleTime, withItem, ended, left, owner}
 use Rattle.rules.proofs.Laws.{cond-elim, at-elim, below-elim, not-below, not-none, at-other, option-cases}

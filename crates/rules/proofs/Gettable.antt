@@ -1,7 +1,9 @@
 -- What could be got: nothing below the strong bound, for no call lowers it; and all else, by a thread whose visible time is low. Assumes nothing.
-use Rattle.rules.proofs.Basis.{_≡_, _∙_, refl, sym, ap, subst, false, true≢false, [], _⊎_, inl, inr, ⊎-elim, by-cases, some, Option·none-ne-some, ℕ, _≤_, _<_, ℕ-discrete, arith, le-ltb, Unseen, Open, Which, Named, Strong, Call, get, attach-input, detach, isSweep, Passable}
+use Rattle.rules.proofs.Basis.{_≡_, _∙_, refl, sym, ap, subst, false, true≢false, [], _⊎_, inl, inr, ⊎-elim, by-cases, some, Option·none-ne-some, ℕ, _≤_, _<_, ℕ-discrete, arith, le-ltb, Unseen, Open, Which, Named, Strong}
+use Rattle.rules.proofs.Basis.{Call, get, attach-input, detach, isSweep, Passable}
 use Rattle.rules.specs.Claims.{Living, ViewInOrder, GetsWhatIsPresent}
-use Rattle.rules.specs.Rules.{Connection, unused, output, input, View, withConnection, owner, inputFrom, stateOn, seenAs, firstSeen, VisibleTime, StrongBound, Item, IsPresent, FreeConnection, Outcome, done, Lowest, rule, NoneOf, at, Does}
+use Rattle.rules.specs.Rules.{Connection, unused, output, input, View, withConnection, owner, inputFrom, stateOn, seenAs, firstSeen, VisibleTime, StrongBound, Item, IsPresent, FreeConnection, Outcome, done, Lowest, rule}
+use Rattle.rules.specs.Rules.{NoneOf, at, Does}
 use Rattle.rules.specs.Runs.{Further, CouldBeGot, Run}
 use Rattle.rules.proofs.Bounds.{at-least-calls}
 use Rattle.rules.proofs.Connections.{Waits}

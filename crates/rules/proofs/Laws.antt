@@ -1,6 +1,6 @@
 -- Reading what was changed at one number, deciding, and searching. Assumes nothing.
-use Rattle.rules.proofs.Basis.{_≡_, _∙_, refl, sym, ap, subst, Bool, true, false, cond, _⊎_, inl, inr, ⊎-elim, by-cases, Option, none, some, Option·none-ne-some, Option-discrete, ℕ, zero, suc, _-_, _≤_, _<_, decLt, ℕ-discrete, map-dec, arith, le-refl, eqb, ltb, eqb-true, eqb-false}
-use Rattle.rules.proofs.Basis.{eq-eqb, ne-eqb, ltb-true, ltb-false, State, Absent, Unseen, Open, Consumed, stateNumber}
+use Rattle.rules.proofs.Basis.{_≡_, _∙_, refl, sym, ap, subst, Bool, true, false, cond, _⊎_, inl, inr, ⊎-elim, by-cases, Option, none, some, Option·none-ne-some, Option-discrete, ℕ, zero, suc, _-_, _≤_, _<_, decLt}
+use Rattle.rules.proofs.Basis.{ℕ-discrete, map-dec, arith, le-refl, eqb, ltb, eqb-true, eqb-false, eq-eqb, ne-eqb, ltb-true, ltb-false, State, Absent, Unseen, Open, Consumed, stateNumber}
 use Rattle.rules.specs.Rules.{never, View, at, withItem, Smallest, Lowest}
 
 -- ---- by cases

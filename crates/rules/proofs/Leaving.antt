@@ -2,7 +2,7 @@
 -- that did not wait before, so no bound falls; and after a sweep's leaving its marks hide what leaving did to the states. Assumes nothing.
 use Rattle.rules.proofs.Basis.{_≡_, refl, Bool, true, false, cond, none, some, Option·none-ne-some, ℕ, max, _<_, ltb, Absent, Consumed, Bound, Weak, Strong, Ticket}
 use Rattle.rules.specs.Claims.{LeftInOrder}
-use Rattle.rules.specs.Rules.{never, Pairs, below, Connection, unused, output, input, View, withItems, withConnections, KeepTime, stateOn, consumedBelow, forgetting, left, swept}
+use Rattle.rules.specs.Rules.{never, Pairs, below, Connection, unused, output, input, View, KeepTime, stateOn, consumedBelow, forgetting, left}
 use Rattle.rules.proofs.Connections.{Waits, absent-done, consumed-done, fits-forgetting}
 use Rattle.rules.proofs.Laws.{cond-elim}
 use Rattle.rules.proofs.Ways.{AtLeast}
@@ -45,13 +45,3 @@ pub swept-connection : (bound : ℕ) (c : Connection) → consumedBelow bound (f
 swept-connection bound unused = refl
 swept-connection bound (output t c) = refl
 swept-connection bound (input t c m s) = λ i. input t c (max m bound) (λ n. cond-again (ltb n bound) Consumed (cond (ltb n m) Consumed Absent) (s n) i)
-
--- every connection's timestamps below the bound are CONSUMED, and the rest is as it was
-pub swept-at : (v : View) (bound : ℕ) → swept v bound
-    ≡ withItems (withConnections v (λ k. consumedBelow bound (v .connection k))) (λ channel timestamp. cond (ltb timestamp bound) none (v .item channel timestamp))
-swept-at v bound = λ i. record {
-  thread = v .thread;
-  channel = v .channel;
-  connection = λ k. swept-connection bound (v .connection k) i;
-  item = λ channel timestamp. cond (ltb timestamp bound) none (v .item channel timestamp);
-}

@@ -1,8 +1,8 @@
 -- What an accepted deed does to the items: a put brings one, every other leaves them as they are. Assumes nothing.
-use Rattle.rules.proofs.Basis.{_≡_, _∙_, refl, sym, ap, ap₂, subst, false, true≢false, [], _⊎_, inl, inr, ⊎-elim, none, some, Option·some-injective, Option·none-ne-some, ℕ, Deed, Channel, NewThread, AttachInput, AttachOutput, Detach, End, Set, Put, Get, Consume, ConsumeUntil, Call, by}
-use Rattle.rules.proofs.Basis.{sweep, put, isPutDeed}
+use Rattle.rules.proofs.Basis.{_≡_, _∙_, refl, sym, ap, ap₂, subst, false, true≢false, [], _⊎_, inl, inr, ⊎-elim, none, some, Option·some-injective, Option·none-ne-some, ℕ, Deed, Channel, NewThread, AttachInput}
+use Rattle.rules.proofs.Basis.{AttachOutput, Detach, End, Set, Put, Get, Consume, ConsumeUntil, Call, by, sweep, put, isPutDeed}
 use Rattle.rules.specs.Claims.{RefusedChangesNothing, OnlySweepsRemove, OnlyPutsBring}
-use Rattle.rules.specs.Rules.{View, outputTo, Item, IsPresent, Outcome, done, withItem, deedRow, rule, NoneOf}
+use Rattle.rules.specs.Rules.{View, outputTo, Item, IsPresent, Outcome, done, withItem, deedRow, rule}
 use Rattle.rules.proofs.Clear.{Clear, cleared, not-refused}
 use Rattle.rules.proofs.Laws.{not-none, item-elim, below-elim}
 use Rattle.rules.proofs.Ways.{untaken}

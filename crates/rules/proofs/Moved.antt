@@ -1,9 +1,10 @@
 -- Each call moves a connection in one of eight ways, and each way names the calls that go it: so nothing but a get opens, nothing but a consume by name
 -- consumes from the mark on, and a connection goes by a detach or its thread's end alone. Assumes nothing.
-use Rattle.rules.proofs.Basis.{_≡_, _∙_, refl, sym, ap, subst, cond, _⊎_, inl, inr, Option, none, some, Dec·not-not, ℕ, suc, _≤_, arith, eqb, eqb-true, State, Absent, Unseen, Open, Consumed, stateNumber}
-use Rattle.rules.proofs.Basis.{Which, Channel, NewThread, AttachInput, AttachOutput, Detach, End, Set, Put, Get, Consume, ConsumeUntil, Call, by, sweep, get, consume, detach, end}
+use Rattle.rules.proofs.Basis.{_≡_, _∙_, refl, sym, ap, subst, cond, _⊎_, inl, inr, Option, none, some, Dec·not-not, ℕ, suc, _≤_, arith, eqb, eqb-true, State, Absent, Unseen, Open, Consumed, stateNumber, Which, Channel}
+use Rattle.rules.proofs.Basis.{NewThread, AttachInput, AttachOutput, Detach, End, Set, Put, Get, Consume, ConsumeUntil, Call, by, sweep, get, consume, detach, end}
 use Rattle.rules.specs.Claims.{OnlyGetsOpen, OnlyConsumesConsume, ConnectionsStay}
-use Rattle.rules.specs.Rules.{Connection, unused, output, input, View, at, owner, outputTo, inputFrom, KeepTime, stateOn, ifInput, seenAs, consumedBelow, noticed, noticing, unseenIf, firstSeen, freedFrom, Outcome, rule, NoneOf, Does}
+use Rattle.rules.specs.Rules.{Connection, unused, output, input, View, at, owner, outputTo, inputFrom, KeepTime, stateOn, ifInput, seenAs, consumedBelow, noticed, noticing, unseenIf, firstSeen, freedFrom, Outcome, rule}
+use Rattle.rules.specs.Rules.{Does}
 use Rattle.rules.proofs.Clear.{Clear, cleared, not-refused}
 use Rattle.rules.proofs.Laws.{cond-elim, at-elim, below-elim, some-is, some-one, not-none}
 use Rattle.rules.proofs.Leaving.{swept-connection}

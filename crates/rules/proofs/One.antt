@@ -1,9 +1,10 @@
 -- Two outcomes that a view allows for one call are equal: one refusal is the first, and what an accepted call chooses is one. Assumes nothing.
 use Rattle.calls.specs.Questions.{Question, visible-time, weak-bound, strong-bound, state-of, items-present, Request}
-use Rattle.rules.proofs.Basis.{_≡_, _∙_, refl, sym, ap, ap₂, subst, false, true≢false, List, [], _∷_, _++_, inl, inr, some, ℕ, arith, eqb, length, drop, eq-eqb, Open, Which, Earliest, Latest, Named, Channel, NewThread, AttachInput, AttachOutput, Detach, End, Set, Put, Get, Consume}
-use Rattle.rules.proofs.Basis.{ConsumeUntil, Bound, Call, by, sweep}
+use Rattle.rules.proofs.Basis.{_≡_, _∙_, refl, sym, ap, ap₂, subst, false, true≢false, List, [], _∷_, _++_, inl, inr, some, ℕ, arith, eqb, length, drop, eq-eqb, Open, Which, Earliest, Latest, Named, Channel, NewThread}
+use Rattle.rules.proofs.Basis.{AttachInput, AttachOutput, Detach, End, Set, Put, Get, Consume, ConsumeUntil, Bound, Call, by, sweep}
 use Rattle.rules.specs.Claims.{DoesOneThing, GivesOnce}
-use Rattle.rules.specs.Rules.{below, output, input, View, withThread, withChannel, withConnection, seenAs, firstSeen, Item, Listed, tickets, Refusal, refuse, named-never, Takes, slice-short, Outcome, done, Lowest, withItem, swept, rule, Refuses, NoneOf, Does, askedOf, Says, BoundOf}
+use Rattle.rules.specs.Rules.{below, output, input, View, withThread, withChannel, withConnection, seenAs, firstSeen, Item, Listed, tickets, Refusal, refuse, Takes, slice-short, Outcome, done, Lowest, withItem, swept, rule}
+use Rattle.rules.specs.Rules.{Refuses, NoneOf, Does, askedOf, Says, BoundOf}
 use Rattle.rules.specs.Runs.{Reply, replyOf, told, Gives}
 use Rattle.rules.proofs.Laws.{some-one, smallest-one, not-below}
 use Rattle.rules.proofs.OneList.{listed-one}

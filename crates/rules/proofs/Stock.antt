@@ -1,7 +1,7 @@
 -- The items present are one list in line; a put adds one item, and any set of pairs divides the list into those that leave and those that stay. Assumes
 -- nothing.
-use Rattle.rules.proofs.Basis.{_≡_, _∙_, refl, sym, ap, ap₂, subst, Bool, true, false, cond, not, true≢false, List, [], _∷_, _⊎_, inl, inr, ⊎-elim, _↔_, by-cases, none, some, Option·none-ne-some, ℕ, suc, _+_, decLt, arith, length, not-true, eq-eqb}
-use Rattle.rules.proofs.Basis.{Bound}
+use Rattle.rules.proofs.Basis.{_≡_, _∙_, refl, sym, ap, ap₂, subst, Bool, true, false, cond, not, true≢false, List, [], _∷_, _⊎_, inl, inr, ⊎-elim, _↔_, by-cases, none, some, Option·none-ne-some, ℕ, suc, _+_, decLt, arith}
+use Rattle.rules.proofs.Basis.{length, not-true, eq-eqb, Bound}
 use Rattle.rules.specs.Claims.{ViewInOrder}
 use Rattle.rules.specs.Rules.{Pairs, everything, below, View, Item, _∈_, Before, InLine, Listed, withItem, left, IsPresent, BoundOf}
 use Rattle.rules.proofs.Bounds.{bound-is-there}

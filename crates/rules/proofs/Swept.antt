@@ -1,5 +1,6 @@
 -- A strong sweep hands back exactly what could not be got, a weak one only such; what stays can be got as well as before. Assumes nothing.
-use Rattle.rules.proofs.Basis.{_≡_, _∙_, refl, sym, ap, subst, List, _++_, inl, inr, ⊎-elim, _↔_, none, some, Option·none-ne-some, ℕ, _≤_, _<_, arith, lt-of-not-le, length, drop, ltb-true, lt-ltb, le-ltb, Bound, Weak, Strong, sweep}
+use Rattle.rules.proofs.Basis.{_≡_, _∙_, refl, sym, ap, subst, List, _++_, inl, inr, ⊎-elim, _↔_, none, some, Option·none-ne-some, ℕ, _≤_, _<_, arith, lt-of-not-le, length, drop, ltb-true, lt-ltb, le-ltb, Bound, Weak}
+use Rattle.rules.proofs.Basis.{Strong, sweep}
 use Rattle.rules.specs.Claims.{Handed, HandsBack, SweptExactlyTheUnreachable, WeaklySweptOnlyTheUnreachable, SweepsSpareTheRest}
 use Rattle.rules.specs.Rules.{never, below, Connection, unused, output, input, View, stateOn, consumedBelow, StrongBound, BoundOf, Item, IsPresent, _∈_, Listed, tickets, Outcome, done, left, swept, Does}
 use Rattle.rules.specs.Runs.{CouldBeGot}

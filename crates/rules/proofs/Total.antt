@@ -1,10 +1,11 @@
 -- Every call is answered: each refusal can be decided, and where none is the case there is an outcome that the call leads to. Assumes nothing.
-use Rattle.rules.proofs.Basis.{_≡_, _≢_, _∙_, refl, ap, subst, false, Bool-discrete, List, [], _∷_, _⊎_, inl, inr, ⊎-elim, by-cases, Dec·not, Dec·not-not, Option, none, some, Option-discrete, ℕ, _<_, decLt, decLe, ℕ-discrete, map-dec, arith, length, Unseen, Open, Which, Earliest, Latest}
-use Rattle.rules.proofs.Basis.{Named, Channel, NewThread, AttachInput, AttachOutput, Detach, End, Set, Put, Get, Consume, ConsumeUntil, Bound, Weak, Strong, Call, by, sweep, sliceOf}
+use Rattle.rules.proofs.Basis.{_≡_, _≢_, _∙_, refl, ap, subst, false, Bool-discrete, List, [], _∷_, _⊎_, inl, inr, ⊎-elim, by-cases, Dec·not, Dec·not-not, Option, none, some, Option-discrete, ℕ, _<_, decLt, decLe}
+use Rattle.rules.proofs.Basis.{ℕ-discrete, map-dec, arith, length, Unseen, Open, Which, Earliest, Latest, Named, Channel, NewThread, AttachInput, AttachOutput, Detach, End, Set, Put, Get, Consume, ConsumeUntil, Bound, Weak}
+use Rattle.rules.proofs.Basis.{Strong, Call, by, sweep, sliceOf}
 use Rattle.calls.specs.Questions.{Question, visible-time, weak-bound, strong-bound, state-of, items-present}
 use Rattle.rules.specs.Claims.{EveryCallAnswered, EveryQuestionAnswered, ViewInOrder}
-use Rattle.rules.specs.Rules.{never, everything, View, owner, outputTo, inputFrom, stateOn, VisibleTime, Item, Listed, Refusal, refuse, no-thread, not-its-own, NamesNever, FreeThread, FreeChannel, FreeConnection, TakesUnseen, slice-short, Outcome, Lowest, rule, Refuses, NoneOf, Does, BoundOf}
-use Rattle.rules.specs.Rules.{no-channel, table-full, askedOf, Says}
+use Rattle.rules.specs.Rules.{never, everything, View, owner, outputTo, inputFrom, stateOn, VisibleTime, Item, Listed, Refusal, refuse, NamesNever, FreeThread, FreeChannel, FreeConnection, TakesUnseen, slice-short, Outcome}
+use Rattle.rules.specs.Rules.{Lowest, rule, Refuses, NoneOf, Does, BoundOf, askedOf, Says}
 use Rattle.rules.proofs.Clear.{Clear, cleared, not-refused}
 use Rattle.rules.proofs.Accounts.{items-are-listed}
 use Rattle.rules.proofs.Bounds.{bound-is-there}

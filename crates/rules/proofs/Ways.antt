@@ -1,11 +1,14 @@
 -- A call changes a view in one of six ways, of which none takes an item, perhaps after items leave; so a law of all calls is a law of these, and has six
 -- cases and one. Assumes nothing.
-use Rattle.rules.proofs.Basis.{_≡_, refl, sym, subst, Bool, true, false, inl, inr, ⊎-elim, Dec·and, Dec·not-not, Dec·of-iff, none, some, Option·some-injective, Option·none-ne-some, ℕ, suc, _≤_, _<_, arith, le-refl, lt-of-not-le, ltb-true, State, Unseen, Open, Consumed, Which, Earliest, Latest}
-use Rattle.rules.proofs.Basis.{Named, Deed, Channel, NewThread, AttachInput, AttachOutput, Detach, End, Set, Put, Get, Consume, ConsumeUntil, Bound, Weak, Strong, Call, by, sweep, Ticket, Passable, stateNumber}
+use Rattle.rules.proofs.Basis.{_≡_, refl, sym, subst, Bool, true, false, inl, inr, ⊎-elim, Dec·and, Dec·not-not, Dec·of-iff, none, some, Option·some-injective, Option·none-ne-some, ℕ, suc, _≤_, _<_, arith, le-refl}
+use Rattle.rules.proofs.Basis.{lt-of-not-le, ltb-true, State, Unseen, Open, Consumed, Which, Earliest, Latest, Named, Deed, Channel, NewThread, AttachInput, AttachOutput, Detach, End, Set, Put, Get, Consume, ConsumeUntil}
+use Rattle.rules.proofs.Basis.{Bound, Weak, Strong, Call, by, sweep, Ticket, Passable, stateNumber}
 use Rattle.rules.specs.Claims.{Living, ViewInOrder}
-use Rattle.rules.specs.Rules.{never, Pairs, below, Connection, unused, output, input, View, withThread, withChannel, withConnection, owner, outputTo, KeepTime, stateOn, IsTime, VisibleTime, BoundOf, Takes, Outcome, Lowest, withItem, ended, left, raised, deedRow, rule, Does, seenAs}
+use Rattle.rules.specs.Rules.{never, Pairs, below, Connection, unused, output, input, View, withThread, withChannel, withConnection, owner, outputTo, KeepTime, stateOn, IsTime, VisibleTime, BoundOf, Takes, Outcome, Lowest}
+use Rattle.rules.specs.Rules.{withItem, ended, left, raised, deedRow, rule, Does, seenAs}
 use Rattle.rules.proofs.Clear.{Clear, cleared, not-refused}
-use Rattle.rules.proofs.Connections.{Turned, Allowed, Waits, ConnectionFitsIn, Turn, absent-done, reads, turned-freed, writes, turned-seen-as, turned-noticing, turned-raised, sees-first, seen-there, fits-seen-as, seen-above, fits-raised, freed, alike, opens, consumes}
+use Rattle.rules.proofs.Connections.{Turned, Allowed, Waits, ConnectionFitsIn, Turn, absent-done, reads, turned-freed, writes, turned-seen-as, turned-noticing, turned-raised, sees-first, seen-there, fits-seen-as}
+use Rattle.rules.proofs.Connections.{seen-above, fits-raised, freed, alike, opens, consumes}
 use Rattle.rules.proofs.Laws.{smallest-above, not-below, option-cases, smallest, at-elim, either, some-is, exists-below, state-is, smallest-one}
 
 -- ---- what is not refused

@@ -1,31 +1,12 @@
--- A desk in order stays so where one table changes: one row of the threads or connections, a new item, a thread's end, a sweep. Assumes nothing.
-use Rattle.obeys.proofs.Basis.{_∙_, _≡_, ap, refl, sym, Bool, and-false, false, true, _≢_, List, _<_, _≤_, ℕ, ℕ-discrete, arith, ltb, getD, set, getD-set-other, getD-set-same, eq-eqb, has, except, with, free-lacks, has-none}
-use Rattle.obeys.proofs.Basis.{except-lt, with-other, with-same, word-ext, cleared, never, noConnection, noItem, noThread, Row, Item, Thread, and-both, bool-cases, true-not-false, isItem, placeOf, Table, connectionAt}
-use Rattle.obeys.proofs.Basis.{connectionPlaces, inUse, isInput, itemAt, itemPlaces, table, threadPlaces, freedConnections, itemsBelow, ownedBy, sweptConnection, sweptConnections, sweptItems, getD-rowsOf, ended, freeItem}
-use Rattle.obeys.proofs.Basis.{stored, swept, connectionsOf, itemsOf, withConnections, withItems, withThreads, Desk, ConnectionInOrder, DeskInOrder, Stands, Tidy}
-use Rattle.obeys.proofs.Words.{not-then, Elsewhere, with-was, with-elsewhere, without-elsewhere, except-was, except-stays}
+-- A desk in order stays so where one table changes: one row of the threads or connections, a new item, a thread's end, items that leave, raised marks. Assumes nothing.
+use Rattle.obeys.proofs.Basis.{_∙_, _≡_, ap, refl, subst, sym, and-false, cond, false, true, _≢_, List, _<_, _≤_, ℕ, ℕ-discrete, arith, eqb, ltb, getD, set, getD-set-other, getD-set-same, eq-eqb, has, except, with}
+use Rattle.obeys.proofs.Basis.{free-lacks, with-other, with-same, cleared, inward, never, noConnection, noItem, noThread, Row, Item, Thread, and-both, bool-cases, true-not-false, isItem, placeOf, Table, connectionAt}
+use Rattle.obeys.proofs.Basis.{isConnection, connectionPlaces, inUse, itemAt, itemPlaces, table, threadPlaces, clearedItems, changedConnections, freedConnections, itemsBelow, ownedBy, raisedInput, getD-rowsOf, ended}
+use Rattle.obeys.proofs.Basis.{freeItem, left, raisedTo, stored, swept, connectionsOf, itemsOf, withConnections, withThreads, Desk, used-inside, ConnectionInOrder, DeskInOrder, Stands, Tidy}
+use Rattle.obeys.proofs.Words.{Elsewhere, with-was, with-elsewhere, without-elsewhere, except-was, except-stays, in-use}
 use Rattle.obeys.proofs.Chosen.{place-reach}
 use Rattle.obeys.proofs.Order.Tables.{tidy-by-rule, tidy-set, all-set, tidy-thinned, thinned-row}
 use Rattle.obeys.proofs.Order.Rows.{standing, raised-in-order, cleared-in-order}
-
--- ---- a swept row
-
--- a free row stays free
-except-none : (gone : ℕ) → except 0 gone ≡ 0
-except-none gone = word-ext (except 0 gone) 0 (except-lt 0 gone) (omega arith) (λ i inside. not-then (except-was 0 gone i) (has-none i) ∙ sym (has-none i))
-
-free-swept : (reads : Bool) (bound gone : ℕ) → reads ≡ false → sweptConnection reads bound gone noConnection ≡ noConnection
-unfolding cleared
-free-swept reads bound gone writes = rw (writes, except-none gone)
-
-free-reads : (used connection : ℕ) (rows : List Row) → has used connection ≡ false → isInput (table used rows) connection ≡ false
-unfolding isInput inUse
-free-reads used connection rows unused = rw (unused, and-false (ltb connection 32))
-
-swept-row-in-order : {items : Table Item} (row : Row) (reads : Bool) (bound gone : ℕ) → bound ≤ never → ConnectionInOrder items (cleared row gone)
-    → ConnectionInOrder items (sweptConnection reads bound gone row)
-swept-row-in-order row true bound gone top c = raised-in-order c bound top
-swept-row-in-order row false bound gone top c = c
 
 module _ {d : Desk} (o : DeskInOrder d) where
   -- ---- threads and connections
@@ -164,45 +145,80 @@ module _ {d : Desk} (o : DeskInOrder d) (item : Item) (fits : freeItem d < itemP
         one-item-a-pair = pairs;
       }
 
--- ---- a sweep
+-- ---- every connection's row changes by a rule
 
-module _ {d : Desk} (o : DeskInOrder d) (bound gone : ℕ) (top : bound ≤ never) where
-  abbrev row : ℕ → Row
-  row connection = sweptConnection (isInput (connectionsOf d) connection) bound gone (connectionAt (connectionsOf d) connection)
+module _ (connections : Table Row) (rule : Row → Row) where
+  abbrev by-rule : ℕ → Row
+  by-rule connection = cond (isConnection connections connection) (rule (connectionAt connections connection)) (connectionAt connections connection)
 
-  abbrev left : Table Item
-  left = table (except (d .present) gone) (sweptItems (d .items) gone)
+  pub changed-row : (connection : ℕ) → isConnection connections connection ≡ true
+      → getD (changedConnections connections rule) connection noConnection ≡ rule (connectionAt connections connection)
+  unfolding changedConnections
+  changed-row connection used = getD-rowsOf by-rule connectionPlaces connection noConnection (used-inside (connections .used) used) ∙ rw used
 
-  -- the items that are left are as they were
-  item-at : (place : ℕ) → has (except (d .present) gone) place ≡ true → itemAt left place ≡ itemAt (itemsOf d) place
-  unfolding sweptItems
-  item-at place held = thinned-row (o .items) (omega arith) gone place held
+  module _ (tidy : Tidy connectionPlaces noConnection (connections .used) (connections .rows)) where
+    changed-tidy : Tidy connectionPlaces noConnection (connections .used) (changedConnections connections rule)
+    unfolding changedConnections inUse
+    changed-tidy =
+        tidy-by-rule connectionPlaces noConnection (connections .used) by-rule (tidy .inside)
+        (λ connection unused. rw (unused, and-false (ltb connection connectionPlaces)) (tidy .free connection unused))
 
-  -- and a fact stands where an item is left
-  stands-left : (row : Row) (place : ℕ) → has gone place ≡ false → Stands (itemsOf d) row place → Stands left row place
-  stands-left row place kept (there, beside, reads) =
+    -- what holds of every row by the rule
+    all-changed : (P : Row → Type 0) → ((connection : ℕ) → has (connections .used) connection ≡ true → P (rule (connectionAt connections connection)))
+        → (connection : ℕ) → has (connections .used) connection ≡ true → P (getD (changedConnections connections rule) connection noConnection)
+    all-changed P each-one connection used =
+        subst P (sym (changed-row connection (in-use (connections .used) connection connectionPlaces (tidy .inside connection used) used))) (each-one connection used)
+
+-- ---- the marks are raised
+
+raised-input-in-order : {items : Table Item} {row : Row} → ConnectionInOrder items row → (bound : ℕ) → bound ≤ never → ConnectionInOrder items (raisedInput row bound)
+raised-input-in-order {items} {row} c bound top = bool-cases (eqb (row .direction) inward) (λ reads. rw reads (raised-in-order c bound top)) (λ writes. rw writes c)
+
+pub raised-to-in-order : {d : Desk} → DeskInOrder d → (bound : ℕ) → bound ≤ never → DeskInOrder (raisedTo d bound)
+unfolding raisedTo
+raised-to-in-order {d} o bound top =
+    let rule : Row → Row = λ row. raisedInput row bound in
+    other-connections o (changed-tidy (connectionsOf d) rule (o .connections))
+    (all-changed (connectionsOf d) rule (o .connections) (ConnectionInOrder (itemsOf d)) (λ connection used. raised-input-in-order (o .attached connection used) bound top))
+
+-- ---- items leave
+
+module _ {d : Desk} (o : DeskInOrder d) (gone : ℕ) where
+  abbrev stay : Table Item
+  stay = table (except (d .present) gone) (clearedItems (d .items) gone)
+
+  -- an item that stays is as it was
+  pub item-stays : (place : ℕ) → has (except (d .present) gone) place ≡ true → itemAt stay place ≡ itemAt (itemsOf d) place
+  unfolding clearedItems
+  item-stays place held = thinned-row (o .items) (omega arith) gone place held
+
+  -- and a fact stands where its item stays
+  fact-stays : (row : Row) (place : ℕ) → has gone place ≡ false → Stands (itemsOf d) row place → Stands stay row place
+  fact-stays row place kept (there, beside, reads) =
       let held : has (except (d .present) gone) place ≡ true = except-stays (d .present) gone place (o .items .inside place there) there kept in
-      (held, ap (λ (item : Item). item .channel) (item-at place held) ∙ beside, reads)
+      (held, ap (λ (item : Item). item .channel) (item-stays place held) ∙ beside, reads)
 
-  swept-by : DeskInOrder (withItems (withConnections d (d .attached) (sweptConnections (connectionsOf d) bound gone)) (left .used) (left .rows))
-  unfolding sweptConnections sweptItems
-  swept-by = record {
-    threads = o .threads;
-    connections = tidy-by-rule connectionPlaces noConnection (d .attached) row (o .connections .inside)
-        (λ connection unused. rw (o .connections .free connection unused) (free-swept _ bound gone (free-reads (d .attached) connection (d .connections) unused)));
-    items = tidy-thinned (o .items) (omega arith) gone;
-    channels = o .channels;
-    times = o .times;
-    attached = λ connection used. rw (getD-rowsOf row connectionPlaces connection noConnection (o .connections .inside connection used))
-        (swept-row-in-order (connectionAt (connectionsOf d) connection) (isInput (connectionsOf d) connection) bound gone top
-        (cleared-in-order (o .attached connection used) left gone (stands-left (connectionAt (connectionsOf d) connection))));
-    timestamps = λ place held. rw (item-at place held) (o .timestamps place (except-was (d .present) gone place held));
-    one-item-a-pair = λ place other held other-held channel timestamp.
-        o .one-item-a-pair place other (except-was (d .present) gone place held) (except-was (d .present) gone other other-held)
-        (rw (item-at place held, item-at other other-held) at channel)
-        (rw (item-at place held, item-at other other-held) at timestamp);
-  }
+  pub left-in-order : DeskInOrder (left d gone)
+  unfolding left clearedItems
+  left-in-order =
+      let rule : Row → Row = λ row. cleared row gone in
+      record {
+        threads = o .threads;
+        connections = changed-tidy (connectionsOf d) rule (o .connections);
+        items = tidy-thinned (o .items) (omega arith) gone;
+        channels = o .channels;
+        times = o .times;
+        attached = all-changed (connectionsOf d) rule (o .connections) (ConnectionInOrder stay)
+            (λ connection used. cleared-in-order (o .attached connection used) stay gone (fact-stays (connectionAt (connectionsOf d) connection)));
+        timestamps = λ place held. rw (item-stays place held) (o .timestamps place (except-was (d .present) gone place held));
+        one-item-a-pair = λ place other held other-held channel timestamp.
+            o .one-item-a-pair place other (except-was (d .present) gone place held) (except-was (d .present) gone other other-held)
+            (rw (item-stays place held, item-stays other other-held) at channel)
+            (rw (item-stays place held, item-stays other other-held) at timestamp);
+      }
+
+-- ---- a sweep
 
 pub swept-in-order : {d : Desk} → DeskInOrder d → (bound : ℕ) → bound ≤ never → DeskInOrder (swept d bound)
 unfolding swept
-swept-in-order {d} o bound top = swept-by o bound (itemsBelow (itemsOf d) bound) top
+swept-in-order {d} o bound top = raised-to-in-order (left-in-order o (itemsBelow (itemsOf d) bound)) bound top
