@@ -17,6 +17,7 @@ use leaving::raised_connections;
 use rows::Answer;
 use rows::answers::needs;
 
+// Each of the functions that change a table has one caller, so that it is compiled in: elsewhere a table that is passed or returned is copied.
 impl Desk {
     // The items in the places leave, and with them the facts of these places on every connection.
     fn left(mut self, gone: u64) -> Desk
