@@ -52,6 +52,6 @@ int main(void)
         printf("%02x", bytes[each]);
     printf("\n");
     for (size_t code = DESK_NO_THREAD; code <= DESK_SLICE_TOO_SHORT; code++)
-        printf("refused (%zu): %s\n", code, refusals[code]);
+        printf("refused (%zu): %s\n", code, refusal((uint32_t)code));
     return 0;
 }

@@ -187,7 +187,7 @@ fn main() -> io::Result<()> {
         session,
     };
     let mut output = io::BufWriter::new(io::stdout().lock());
-    let mut answer = String::with_capacity(24 * ITEMS);
+    let mut answer = String::with_capacity(24 * ITEMS as usize);
     for line in io::stdin().lock().split(b'\n') {
         answer.clear();
         room.answer(&line?, &mut answer);
