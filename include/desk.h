@@ -31,19 +31,19 @@ enum { DESK_THREADS = 16, DESK_CHANNELS = 8, DESK_CONNECTIONS = 32, DESK_ITEMS =
 
 /* The code of an answer. */
 enum {
-    DESK_ACCEPTED = 0,            /* accepted */
-    DESK_NO_THREAD = 1,           /* no such living thread */
-    DESK_NO_CHANNEL = 2,          /* no such channel */
-    DESK_NO_CONNECTION = 3,       /* no such connection, or another thread's */
-    DESK_OTHER_DIRECTION = 4,     /* connection of the other direction */
-    DESK_NO_TIMESTAMP = 5,        /* never given where a timestamp is needed */
-    DESK_BELOW_VISIBLE_TIME = 6,  /* time below the caller's visible time */
-    DESK_ALREADY_PRESENT = 7,     /* timestamp already present in the channel */
-    DESK_ITEMS_FULL = 8,          /* 64 items present */
-    DESK_TABLE_FULL = 9,          /* the table has no free place */
-    DESK_NOTHING_UNSEEN = 10,     /* no UNSEEN item that fits */
-    DESK_NOT_OPEN = 11,           /* item is not OPEN on the connection */
-    DESK_SLICE_TOO_SHORT = 12     /* slice shorter than the items to hand back */
+    DESK_ACCEPTED = 0,           /* accepted */
+    DESK_NO_THREAD = 1,          /* no such living thread */
+    DESK_NO_CHANNEL = 2,         /* no such channel */
+    DESK_NO_CONNECTION = 3,      /* no such connection, or another thread's */
+    DESK_OTHER_DIRECTION = 4,    /* connection of the other direction */
+    DESK_NO_TIMESTAMP = 5,       /* never given where a timestamp is needed */
+    DESK_BELOW_VISIBLE_TIME = 6, /* time below the caller's visible time */
+    DESK_ALREADY_PRESENT = 7,    /* timestamp already present in the channel */
+    DESK_ITEMS_FULL = 8,         /* 64 items present */
+    DESK_TABLE_FULL = 9,         /* the table has no free place */
+    DESK_NOTHING_UNSEEN = 10,    /* no UNSEEN item that fits */
+    DESK_NOT_OPEN = 11,          /* item is not OPEN on the connection */
+    DESK_SLICE_TOO_SHORT = 12    /* slice shorter than the items to hand back */
 };
 
 /* A timestamp's state on an input connection, as desk_state gives it in the value. */
@@ -61,11 +61,11 @@ DESK_LAYOUT(offsetof(DeskThread, time) == 0);
 /* a connection */
 typedef struct DeskConnection {
     uint32_t direction; /* 1 input, 2 output; 0 in a free place */
-    uint32_t thread; /* whose it is */
-    uint32_t channel; /* where it leads */
-    uint32_t mark; /* all below it is CONSUMED */
-    uint64_t opened; /* bit p: the item in place p was got */
-    uint64_t consumed; /* bit p: the item in place p was consumed by name */
+    uint32_t thread;    /* whose it is */
+    uint32_t channel;   /* where it leads */
+    uint32_t mark;      /* all below it is CONSUMED */
+    uint64_t opened;    /* bit p: the item in place p was got */
+    uint64_t consumed;  /* bit p: the item in place p was consumed by name */
 } DeskConnection;
 DESK_LAYOUT(sizeof(DeskConnection) == 32);
 DESK_LAYOUT(offsetof(DeskConnection, direction) == 0);
@@ -77,9 +77,9 @@ DESK_LAYOUT(offsetof(DeskConnection, consumed) == 24);
 
 /* an item */
 typedef struct DeskItem {
-    uint32_t channel; /* where it lies */
+    uint32_t channel;   /* where it lies */
     uint32_t timestamp; /* its timestamp */
-    uint64_t ticket; /* its ticket */
+    uint64_t ticket;    /* its ticket */
 } DeskItem;
 DESK_LAYOUT(sizeof(DeskItem) == 16);
 DESK_LAYOUT(offsetof(DeskItem, channel) == 0);
@@ -88,13 +88,13 @@ DESK_LAYOUT(offsetof(DeskItem, ticket) == 8);
 
 /* the desk: before each table stands the word of its used places, place 0 the lowest bit */
 typedef struct Desk {
-    uint64_t living; /* which thread places are used */
-    DeskThread threads[16]; /* the threads */
-    uint64_t channels; /* which of the 8 channels exist */
-    uint64_t attached; /* which connection places are used */
+    uint64_t living;                /* which thread places are used */
+    DeskThread threads[16];         /* the threads */
+    uint64_t channels;              /* which of the 8 channels exist */
+    uint64_t attached;              /* which connection places are used */
     DeskConnection connections[32]; /* the connections */
-    uint64_t present; /* which item places are used */
-    DeskItem items[64]; /* the items */
+    uint64_t present;               /* which item places are used */
+    DeskItem items[64];             /* the items */
 } Desk;
 DESK_LAYOUT(sizeof(Desk) == 2144);
 DESK_LAYOUT(offsetof(Desk, living) == 0);
@@ -107,9 +107,9 @@ DESK_LAYOUT(offsetof(Desk, items) == 1120);
 
 /* an answer */
 typedef struct DeskAnswer {
-    uint32_t code; /* 0, or the refusal */
+    uint32_t code;  /* 0, or the refusal */
     uint64_t value; /* the value */
-    uint32_t time; /* the time */
+    uint32_t time;  /* the time */
 } DeskAnswer;
 DESK_LAYOUT(sizeof(DeskAnswer) == 24);
 DESK_LAYOUT(offsetof(DeskAnswer, code) == 0);

@@ -42,7 +42,8 @@ static const struct call calls[CALLS] = {
 };
 
 /* Makes the call in this place of the table; the slice is for a sweep. */
-static inline DeskAnswer perform(size_t call, Desk *desk, const uint64_t *numbers, uint64_t *slice, size_t length)
+static inline DeskAnswer perform(
+    size_t call, Desk *desk, const uint64_t *numbers, uint64_t *slice, size_t length)
 {
     switch (call) {
     case 0: return desk_channel(desk, (uint32_t)numbers[0]);

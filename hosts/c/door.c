@@ -2,6 +2,7 @@
  * answer to each line. */
 #include "calls.h"
 
+#include <assert.h>
 #include <inttypes.h>
 #include <stdio.h>
 #include <stdlib.h>
@@ -55,6 +56,7 @@ static void sweep(Desk *desk, size_t call, const struct line *line, bool into)
 {
     uint64_t places[LONGEST_SLICE + 1];
     size_t length = into ? (size_t)line->numbers[calls[call].numbers] : DESK_ITEMS;
+    assert(length <= LONGEST_SLICE);
     for (size_t place = 0; place <= length; place++)
         places[place] = UNTOUCHED + place;
     DeskAnswer answer = perform(call, desk, line->numbers, places, length);
@@ -93,6 +95,7 @@ int main(void)
     struct line line;
     while (next_line(&line)) {
         if (strcmp(line.text, "desk") == 0) {
+            assert(line.numbers[0] < DESKS);
             desk = &desks[line.numbers[0]];
             printf("0 0 0");
         } else if (strcmp(line.text, "fresh") == 0) {
