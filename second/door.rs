@@ -10,6 +10,7 @@ mod desk;
 mod dice;
 mod line;
 mod mood;
+mod script;
 mod writer;
 
 use desk::{Answer, State};
@@ -136,13 +137,13 @@ impl Script {
     fn fresh(&mut self) {
         let reckless = self.lives[self.current].reckless;
         self.lives[self.current] = Life::new(&mut self.dice, reckless);
-        self.lines.push_str("!\n");
+        self.lines.push_str("fresh\n");
         self.answers.push_str("0 0 0\n");
     }
 
     fn switch(&mut self) {
         self.current = self.dice.below(DESKS as u64) as usize;
-        writeln!(self.lines, "@ {}", self.current).unwrap();
+        writeln!(self.lines, "desk {}", self.current).unwrap();
         self.answers.push_str("0 0 0\n");
     }
 
@@ -185,33 +186,37 @@ impl Script {
     }
 
     fn perform(&mut self, line: &[u8]) {
-        let text = String::from_utf8_lossy(line).into_owned();
         match line::read(line) {
-            Some(call @ (Call::WeakSweep | Call::StrongSweep)) => self.sweep(&text, call),
+            Some(call @ (Call::WeakSweep | Call::StrongSweep)) => self.sweep(call),
             Some(call) => {
                 let answer = line::perform(&mut self.writer().desk, call, &mut []);
-                self.add(&text, answer);
+                self.add(&script::written(call), answer);
             }
             // Leading zeros can make a line overlong.
-            None => self.add(
-                &text,
-                Answer {
-                    code: 99,
-                    value: 0,
-                    time: 0,
-                },
-            ),
+            None => self.question(),
         }
     }
 
-    /// The answer to a sweep is followed by the whole slice and by the place
-    /// after its end, whatever the answer is.
-    fn sweep(&mut self, letter: &str, call: Call) {
-        let length = self.length(call);
+    /// The answer to a sweep into a lent slice is followed by the whole slice
+    /// and by the place after its end, whatever the answer is; the answer to
+    /// one into a slice of its own by the tickets.
+    fn sweep(&mut self, call: Call) {
+        let into = self.dice.percent(70);
+        let length = if into {
+            self.length(call)
+        } else {
+            desk::ITEMS as u64
+        };
         let mut places: Vec<u64> = (0..=length).map(|place| UNTOUCHED + place).collect();
         let slice = &mut places[..length as usize];
         let answer = line::perform(&mut self.lives[self.current].writer.desk, call, slice);
-        self.add(&format!("{letter} {length}"), answer);
+        let name = script::written(call);
+        if into {
+            self.add(&format!("{name}_into {length}"), answer);
+        } else {
+            self.add(&name, answer);
+            places.truncate(answer.value as usize);
+        }
         self.answers.pop();
         for place in places {
             write!(self.answers, " {place}").unwrap();
@@ -237,15 +242,15 @@ impl Script {
         match self.dice.below(10) {
             0 => {
                 let answer = self.writer().desk.weak_bound();
-                self.add("b", answer);
+                self.add("weak_bound", answer);
             }
             1 => {
                 let answer = self.writer().desk.strong_bound();
-                self.add("B", answer);
+                self.add("strong_bound", answer);
             }
             2 => {
                 let answer = self.writer().desk.items_present();
-                self.add("m", answer);
+                self.add("items_present", answer);
             }
             3..=4 => self.visible_time(),
             _ => self.state(),
@@ -258,7 +263,7 @@ impl Script {
             thread = self.edge() as u32;
         }
         let answer = self.writer().desk.visible_time(thread);
-        self.add(&format!("v {thread}"), answer);
+        self.add(&format!("visible_time {thread}"), answer);
     }
 
     fn state(&mut self) {
@@ -274,6 +279,6 @@ impl Script {
             _ => {}
         }
         let answer = self.writer().desk.state(connection, timestamp);
-        self.add(&format!("q {connection} {timestamp}"), answer);
+        self.add(&format!("state {connection} {timestamp}"), answer);
     }
 }

@@ -4,10 +4,14 @@
 //! letter, is missing. A session cannot meet 12: its slice has 64 places, and
 //! no more than 64 items can leave.
 
+mod desk;
+mod dice;
+mod mood;
+
+use mood::LETTERS;
 use std::fs;
 use std::process::ExitCode;
 
-const LETTERS: &[u8; 15] = b"cniodespgGxfuwW";
 const CODES: [usize; 14] = [0, 1, 2, 3, 4, 5, 6, 7, 8, 9, 10, 11, 12, 99];
 
 /// Counts for each letter and each code; the last row is for lines not readable.

@@ -1,115 +1,43 @@
-/* The door of a host in C: reads a door script from standard input (hosts/README.md has its lines), or with --session
- * the lines of a session, and prints the answer to each line. */
+/* The door of a host in C: reads a door script from standard input (hosts/README.md has its lines), and prints the
+ * answer to each line. */
 #include "calls.h"
 
+#include <assert.h>
 #include <inttypes.h>
-#include <stdbool.h>
 #include <stdio.h>
+#include <stdlib.h>
 #include <string.h>
 
-enum { LONGEST_LINE = 80, DESKS = 8, LONGEST_SLICE = 70 };
+enum { DESKS = 8, LONGEST_SLICE = 70, LONGEST_LINE = 250 };
 
 /* What a slice holds before a sweep: this and the number of the place. */
 #define UNTOUCHED UINT64_C(7000000000000000000)
 
-/* What stands after a letter in a session and in a script; NULL where the letter is not read there. A character for
- * each number says how large it may be: see largest. */
-static const struct kind {
-    char letter;
-    const char *session;
-    const char *script;
-} kinds[] = {
-    {'c', "n", "n"},
-    {'n', "nn", "nn"},
-    {'i', "nn", "nn"},
-    {'o', "nn", "nn"},
-    {'d', "nn", "nn"},
-    {'e', "n", "n"},
-    {'s', "nn", "nn"},
-    {'p', "nnnt", "nnnt"},
-    {'g', "nn", "nn"},
-    {'G', "nn", "nn"},
-    {'x', "nnn", "nnn"},
-    {'f', "nnn", "nnn"},
-    {'u', "nnn", "nnn"},
-    {'w', "", "s"},
-    {'W', "", "s"},
-    {'v', NULL, "n"},
-    {'b', NULL, ""},
-    {'B', NULL, ""},
-    {'q', NULL, "nn"},
-    {'m', NULL, ""},
-    {'@', NULL, "d"},
-    {'!', NULL, ""},
-};
-
-/* The largest number of a kind: t a ticket, s the length of a slice, d a desk, n any other. */
-static uint64_t largest(char kind)
-{
-    switch (kind) {
-    case 't': return UINT64_MAX;
-    case 's': return LONGEST_SLICE;
-    case 'd': return DESKS - 1;
-    default: return UINT32_MAX;
-    }
-}
-
-/* A line without its newline; of an overlong one only as much as shows that it is. */
+/* A name and its numbers, the length of a slice among them. Those that the line lacks are 0. */
 struct line {
-    char bytes[LONGEST_LINE + 1];
-    size_t length;
+    char text[LONGEST_LINE];
+    uint64_t numbers[MOST_NUMBERS + 1];
 };
 
 static bool next_line(struct line *line)
 {
-    int byte = getchar();
-    if (byte == EOF)
+    if (fgets(line->text, sizeof line->text, stdin) == NULL)
         return false;
-    line->length = 0;
-    for (; byte != EOF && byte != '\n'; byte = getchar())
-        if (line->length <= LONGEST_LINE)
-            line->bytes[line->length++] = (char)byte;
+    char *rest = line->text + strcspn(line->text, " \n");
+    if (*rest != '\0')
+        *rest++ = '\0';
+    for (size_t each = 0; each <= MOST_NUMBERS; each++)
+        line->numbers[each] = strtoull(rest, &rest, 10);
     return true;
 }
 
-static const char *numbers_of(char letter, bool session)
+static size_t call_of(const char *name)
 {
-    for (size_t each = 0; each < sizeof kinds / sizeof kinds[0]; each++)
-        if (kinds[each].letter == letter)
-            return session ? kinds[each].session : kinds[each].script;
-    return NULL;
-}
-
-/* Reads one space and a decimal number up to the limit. */
-static bool read_number(const struct line *line, size_t *at, uint64_t limit, uint64_t *number)
-{
-    if (*at == line->length || line->bytes[*at] != ' ')
-        return false;
-    size_t first = ++*at;
-    *number = 0;
-    for (; *at < line->length && line->bytes[*at] >= '0' && line->bytes[*at] <= '9'; ++*at) {
-        uint64_t digit = (uint64_t)(line->bytes[*at] - '0');
-        if (digit > limit || *number > (limit - digit) / 10)
-            return false;
-        *number = *number * 10 + digit;
-    }
-    return *at > first;
-}
-
-static bool read_call(const struct line *line, bool session, struct call *call)
-{
-    if (line->length == 0 || line->length > LONGEST_LINE)
-        return false;
-    call->letter = line->bytes[0];
-    const char *numbers = numbers_of(call->letter, session);
-    if (numbers == NULL)
-        return false;
-    size_t at = 1;
-    for (size_t each = 0; numbers[each] != '\0'; each++) {
-        if (!read_number(line, &at, largest(numbers[each]), &call->numbers[each]))
-            return false;
-    }
-    return at == line->length;
+    for (size_t call = 0; call < CALLS; call++)
+        if (strcmp(calls[call].name, name) == 0)
+            return call;
+    fprintf(stderr, "door-c: there is no call %s\n", name);
+    exit(2);
 }
 
 static void print_answer(DeskAnswer answer)
@@ -117,54 +45,68 @@ static void print_answer(DeskAnswer answer)
     printf("%" PRIu32 " %" PRIu64 " %" PRIu32, answer.code, answer.value, answer.time);
 }
 
-/* In a session the tickets are printed; in a script the whole slice and the place after its end. */
-static void sweep(Desk *desk, const struct call *call, bool session)
+static void print_places(const uint64_t *places, size_t length)
 {
-    uint64_t places[LONGEST_SLICE + 1];
-    size_t length = session ? DESK_ITEMS : (size_t)call->numbers[0];
-    for (size_t place = 0; place <= length; place++)
-        places[place] = UNTOUCHED + place;
-    DeskAnswer answer = perform(desk, call, places, length);
-    print_answer(answer);
-    size_t printed = length + 1;
-    if (session)
-        printed = answer.code == DESK_ACCEPTED ? (size_t)answer.value : 0;
-    for (size_t place = 0; place < printed; place++)
+    for (size_t place = 0; place < length; place++)
         printf(" %" PRIu64, places[place]);
 }
 
-static void answer_line(Desk *desks, Desk **desk, const struct line *line, bool session)
+/* Into a slice of the line's length the whole slice is told, and the place after its end; else the tickets. */
+static void sweep(Desk *desk, size_t call, const struct line *line, bool into)
 {
-    struct call call = {0, {0}};
-    if (!read_call(line, session, &call)) {
-        printf("99 0 0");
-    } else if (is_sweep(call.letter)) {
-        sweep(*desk, &call, session);
-    } else if (call.letter == '@') {
-        *desk = &desks[call.numbers[0]];
-        printf("0 0 0");
-    } else if (call.letter == '!') {
-        **desk = desk_fresh();
-        printf("0 0 0");
-    } else {
-        print_answer(perform(*desk, &call, NULL, 0));
-    }
-    putchar('\n');
+    uint64_t places[LONGEST_SLICE + 1];
+    size_t length = into ? (size_t)line->numbers[calls[call].numbers] : DESK_ITEMS;
+    assert(length <= LONGEST_SLICE);
+    for (size_t place = 0; place <= length; place++)
+        places[place] = UNTOUCHED + place;
+    DeskAnswer answer = perform(call, desk, line->numbers, places, length);
+    print_answer(answer);
+    if (into)
+        print_places(places, length + 1);
+    else if (answer.code == DESK_ACCEPTED)
+        print_places(places, (size_t)answer.value);
 }
 
-int main(int words, char **word)
+static void make_call(Desk *desk, struct line *line)
 {
-    bool session = words == 2 && strcmp(word[1], "--session") == 0;
-    if (words > 1 && !session) {
-        fprintf(stderr, "usage: door-c [--session] < LINES\n");
-        return 2;
-    }
+    char *into = strstr(line->text, "_into");
+    if (into != NULL)
+        *into = '\0';
+    size_t call = call_of(line->text);
+    if (calls[call].of_slice)
+        sweep(desk, call, line, into != NULL);
+    else
+        print_answer(perform(call, desk, line->numbers, NULL, 0));
+}
+
+static void print_bytes(const Desk *desk)
+{
+    const unsigned char *bytes = (const unsigned char *)desk;
+    for (size_t each = 0; each < sizeof *desk; each++)
+        printf("%02x", bytes[each]);
+}
+
+int main(void)
+{
     Desk desks[DESKS];
     for (size_t each = 0; each < DESKS; each++)
         desks[each] = desk_fresh();
     Desk *desk = &desks[0];
     struct line line;
-    while (next_line(&line))
-        answer_line(desks, &desk, &line, session);
+    while (next_line(&line)) {
+        if (strcmp(line.text, "desk") == 0) {
+            assert(line.numbers[0] < DESKS);
+            desk = &desks[line.numbers[0]];
+            printf("0 0 0");
+        } else if (strcmp(line.text, "fresh") == 0) {
+            *desk = desk_fresh();
+            printf("0 0 0");
+        } else if (strcmp(line.text, "bytes") == 0) {
+            print_bytes(desk);
+        } else {
+            make_call(desk, &line);
+        }
+        putchar('\n');
+    }
     return fflush(stdout) == 0 ? 0 : 1;
 }

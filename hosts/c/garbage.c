@@ -5,6 +5,7 @@
  * pages that may not be touched at all. */
 #define _DEFAULT_SOURCE
 #include "calls.h"
+#include "refusals.h"
 
 #include <inttypes.h>
 #include <stdio.h>
@@ -14,11 +15,14 @@
 
 enum { PAGE = 4096, CALLS_A_ROUND = 20, LONGEST_SLICE = 70 };
 
-static const char letters[] = "cniodespgGxfuwWvbBqm";
-static const char questions[] = "vbBqm";
-
 static const uint64_t edges[] = {
     0, 1, 2, 3, 7, 8, 15, 16, 31, 32, 63, 64, 255, UINT64_C(1) << 31, UINT32_MAX - 1, UINT32_MAX, UINT64_MAX,
+};
+
+/* A call by its number in the table, with its numbers. */
+struct made {
+    size_t call;
+    uint64_t numbers[MOST_NUMBERS];
 };
 
 /* A page, what it was before a call, and the part of it that is lent. */
@@ -119,24 +123,24 @@ static void fill(Desk *desk)
     }
 }
 
-/* Half of the calls name a connection with the thread that has it, where the letter takes both. */
-static void random_call(const Desk *desk, struct call *call)
+/* Half of the calls that take a connection and its thread name the one that has it. */
+static void random_call(const Desk *desk, struct made *made)
 {
-    call->letter = letters[below(sizeof letters - 1)];
+    made->call = below(CALLS);
     for (size_t each = 0; each < MOST_NUMBERS; each++)
-        call->numbers[each] = below(3) ? below(12) : below(4) ? edge() : random_word();
-    if (strchr("dpgGxfu", call->letter) != NULL && below(2)) {
-        call->numbers[1] = below(DESK_CONNECTIONS);
-        call->numbers[0] = desk->connections[call->numbers[1]].thread;
+        made->numbers[each] = below(3) ? below(12) : below(4) ? edge() : random_word();
+    if (calls[made->call].of_connection && below(2)) {
+        made->numbers[1] = below(DESK_CONNECTIONS);
+        made->numbers[0] = desk->connections[made->numbers[1]].thread;
     }
 }
 
 /* What is wrong with an answer, or NULL. */
-static const char *fault(const struct call *call, DeskAnswer answer, const struct room *desk, const struct room *slice)
+static const char *fault(size_t call, DeskAnswer answer, const struct room *desk, const struct room *slice)
 {
     bool refused = answer.code != DESK_ACCEPTED;
-    size_t handed_back = is_sweep(call->letter) && !refused ? (size_t)answer.value : 0;
-    if (answer.code > DESK_SLICE_TOO_SHORT)
+    size_t handed_back = calls[call].of_slice && !refused ? (size_t)answer.value : 0;
+    if (refused && refusal(answer.code)[0] == '\0')
         return "there is no such code";
     if (answer.code == DESK_SLICE_TOO_SHORT && answer.value * sizeof(uint64_t) <= slice->length)
         return "the slice was long enough";
@@ -146,27 +150,28 @@ static const char *fault(const struct call *call, DeskAnswer answer, const struc
         return "more was handed back than the slice has places";
     if (!unchanged_but(slice, handed_back * sizeof(uint64_t)))
         return "the slice was written beyond what was handed back";
-    if (!unchanged_but(desk, refused || strchr(questions, call->letter) ? 0 : sizeof(Desk)))
+    if (!unchanged_but(desk, refused || calls[call].is_question ? 0 : sizeof(Desk)))
         return "something was written that may not be";
     return NULL;
 }
 
-static const char *lend_and_call(struct room *desk, struct room *slice, struct call *call, DeskAnswer *answer)
+static const char *lend_and_call(struct room *desk, struct room *slice, const struct made *made, DeskAnswer *answer)
 {
     lend(slice, sizeof(uint64_t) * below(LONGEST_SLICE + 1), below(2));
     memcpy(desk->before, desk->page, PAGE);
     memcpy(slice->before, slice->page, PAGE);
     /* The pointer of an empty slice may be anything. */
     void *lent = slice->length == 0 && below(2) ? NULL : slice->page + slice->start;
-    *answer = perform((Desk *)(void *)(desk->page + desk->start), call, lent, slice->length / sizeof(uint64_t));
-    return fault(call, *answer, desk, slice);
+    Desk *lent_desk = (Desk *)(void *)(desk->page + desk->start);
+    *answer = perform(made->call, lent_desk, made->numbers, lent, slice->length / sizeof(uint64_t));
+    return fault(made->call, *answer, desk, slice);
 }
 
-static void tell(const struct call *call, DeskAnswer answer, const char *wrong)
+static void tell(const struct made *made, DeskAnswer answer, const char *wrong)
 {
-    fprintf(stderr, "garbage: %c", call->letter);
-    for (size_t each = 0; each < MOST_NUMBERS; each++)
-        fprintf(stderr, " %" PRIu64, call->numbers[each]);
+    fprintf(stderr, "garbage: %s", calls[made->call].name);
+    for (size_t each = 0; each < calls[made->call].numbers; each++)
+        fprintf(stderr, " %" PRIu64, made->numbers[each]);
     fprintf(stderr, " answered %" PRIu32 " %" PRIu64 " %" PRIu32 ": %s\n", answer.code, answer.value, answer.time, wrong);
 }
 
@@ -187,12 +192,12 @@ int main(int words, char **word)
         Desk *desk = (Desk *)(void *)(room.page + room.start);
         fill(desk);
         for (int each = 0; each < CALLS_A_ROUND; each++) {
-            struct call call;
+            struct made made;
             DeskAnswer answer;
-            random_call(desk, &call);
-            const char *wrong = lend_and_call(&room, &slice, &call, &answer);
+            random_call(desk, &made);
+            const char *wrong = lend_and_call(&room, &slice, &made, &answer);
             if (wrong != NULL) {
-                tell(&call, answer, wrong);
+                tell(&made, answer, wrong);
                 return 1;
             }
             accepted += answer.code == DESK_ACCEPTED;

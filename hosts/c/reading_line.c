@@ -20,7 +20,7 @@ struct line {
 static DeskAnswer accepted(DeskAnswer answer)
 {
     if (answer.code != DESK_ACCEPTED) {
-        fprintf(stderr, "refused (%" PRIu32 "): %s\n", answer.code, refusals[answer.code]);
+        fprintf(stderr, "refused (%" PRIu32 "): %s\n", answer.code, refusal(answer.code));
         exit(1);
     }
     return answer;
@@ -129,7 +129,7 @@ static void move_on(struct line *line)
     sweep(desk);
     printf("The expander asks for another reader for line 2:\n");
     uint32_t code = desk_new_thread(desk, line->expander, 2).code;
-    printf("  refused (%" PRIu32 "): %s.\n\n", code, refusals[code]);
+    printf("  refused (%" PRIu32 "): %s.\n\n", code, refusal(code));
 }
 
 static void go_home(struct line *line)

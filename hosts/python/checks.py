@@ -31,7 +31,7 @@ class Numbers(unittest.TestCase):
         for name, numbers in boundary.NUMBERS.items():
             for index, number in enumerate(numbers):
                 given = [0] * len(numbers)
-                given[index] = wrong(boundary.bits(number))
+                given[index] = wrong(numbers[number])
                 with self.subTest(name=name, given=given), self.assertRaises(error) as raised:
                     getattr(desk, name)(*given)
                 self.assertIn(number, str(raised.exception))
@@ -110,7 +110,7 @@ class Sweeps(unittest.TestCase):
     def test_slice_inside_the_desk(self):
         desk = desk_with_items(2)
         with self.assertRaises(ValueError):
-            desk.strong_sweep_into((c_uint64 * 8).from_buffer(desk.raw, 1120))
+            desk.strong_sweep_into((c_uint64 * 8).from_buffer(desk.raw))
         self.assertEqual(desk.items_present(), 2)
 
 
