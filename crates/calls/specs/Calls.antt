@@ -91,11 +91,17 @@ sliceOf (sweep bound slice) = slice
 
 -- ---- calls whose numbers a program can pass: "Threads, channels, connections and times are 32-bit, tickets 64-bit."
 
+abbrev pub numberLimit : ℕ
+numberLimit = 2 ^ 32
+
+abbrev pub ticketLimit : ℕ
+ticketLimit = 2 ^ 64
+
 abbrev pub Number : ℕ → Type 0
-Number n = n < 2 ^ 32
+Number n = n < numberLimit
 
 abbrev pub Ticket : ℕ → Type 0
-Ticket n = n < 2 ^ 64
+Ticket n = n < ticketLimit
 
 abbrev pub Tickets : List ℕ → Type 0
 Tickets [] = Unit {0}

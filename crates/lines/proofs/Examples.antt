@@ -5,26 +5,13 @@ use Prim.Native.Char.{code}
 use Prim.Native.Nat.{ℕ}
 use Prim.Native.String.{String, [] as nothing, _∷_ as _then_}
 use lib.ListN.{replicate}
-use Rattle.lines.specs.Lines.{fieldsOf, allDigits, decimal, lineOf, readLine}
+use Rattle.calls.specs.declared.Bound.the-variants.{Weak, Strong}
+use Rattle.calls.specs.declared.Call.the-variants.{By, Sweep}
+use Rattle.calls.specs.declared.Deed.the-variants.{Channel, NewThread, AttachInput, AttachOutput, Detach, End, Set, Put, Get, Consume, ConsumeUntil}
+use Rattle.calls.specs.declared.Which.the-variants.{Earliest, Latest, Named}
+use Rattle.lines.specs.Lines.{fieldsOf, allDigits, decimal, numbersOf, formAmong, lineOf, readLine}
 use Rattle.lines.specs.declared.Line.{Line}
-use Rattle.lines.specs.declared.Line.the-variants.{
-  Channel,
-  NewThread,
-  AttachInput,
-  AttachOutput,
-  Detach,
-  End,
-  Set,
-  Put,
-  GetEarliest,
-  GetLatest,
-  GetNamed,
-  Consume,
-  ConsumeUntil,
-  WeakSweep,
-  StrongSweep,
-  Unreadable,
-}
+use Rattle.lines.specs.declared.Line.the-variants.{Asks, Unreadable}
 
 -- the bytes of a text of characters of one byte each
 abbrev bytes : String → List ℕ
@@ -34,22 +21,22 @@ bytes (character then text) = code character ∷ bytes text
 abbrev Reads : String → Line → Type 0
 Reads text line = readLine (bytes text) ≡ line
 
-every-letter : Reads "c 0" (Channel 0)
-    × Reads "n 0 7" (NewThread 0 7)
-    × Reads "i 1 2" (AttachInput 1 2)
-    × Reads "o 1 2" (AttachOutput 1 2)
-    × Reads "d 0 3" (Detach 0 3)
-    × Reads "e 15" (End 15)
-    × Reads "s 0 9" (Set 0 9)
-    × Reads "p 0 1 5 500" (Put 0 1 5 500)
-    × Reads "g 0 4" (GetEarliest 0 4)
-    × Reads "G 0 4" (GetLatest 0 4)
-    × Reads "x 0 4 5" (GetNamed 0 4 5)
-    × Reads "f 0 4 5" (Consume 0 4 5)
-    × Reads "u 0 4 5" (ConsumeUntil 0 4 5)
-    × Reads "w" WeakSweep
-    × Reads "W" StrongSweep
-unfolding fieldsOf allDigits decimal lineOf readLine
+every-letter : Reads "c 0" (Asks (By 0 Channel))
+    × Reads "n 0 7" (Asks (By 0 (NewThread 7)))
+    × Reads "i 1 2" (Asks (By 1 (AttachInput 2)))
+    × Reads "o 1 2" (Asks (By 1 (AttachOutput 2)))
+    × Reads "d 0 3" (Asks (By 0 (Detach 3)))
+    × Reads "e 15" (Asks (By 15 End))
+    × Reads "s 0 9" (Asks (By 0 (Set 9)))
+    × Reads "p 0 1 5 500" (Asks (By 0 (Put 1 5 500)))
+    × Reads "g 0 4" (Asks (By 0 (Get 4 Earliest)))
+    × Reads "G 0 4" (Asks (By 0 (Get 4 Latest)))
+    × Reads "x 0 4 5" (Asks (By 0 (Get 4 (Named 5))))
+    × Reads "f 0 4 5" (Asks (By 0 (Consume 4 5)))
+    × Reads "u 0 4 5" (Asks (By 0 (ConsumeUntil 4 5)))
+    × Reads "w" (Asks (Sweep Weak))
+    × Reads "W" (Asks (Sweep Strong))
+unfolding fieldsOf allDigits decimal numbersOf formAmong lineOf readLine
 every-letter = (refl, refl, refl, refl, refl, refl, refl, refl, refl, refl, refl, refl, refl, refl, refl)
 
 -- each letter takes so many numbers, no more and no fewer, and no other letter is read
@@ -64,27 +51,27 @@ counts : Reads "c" Unreadable
     × Reads "c0" Unreadable
     × Reads "0" Unreadable
     × Reads "" Unreadable
-unfolding fieldsOf allDigits decimal lineOf readLine
+unfolding fieldsOf allDigits decimal numbersOf formAmong lineOf readLine
 counts = (refl, refl, refl, refl, refl, refl, refl, refl, refl, refl, refl)
 
 -- the largest number of each width is read, the next one is not
-widths : Reads "c 4294967295" (Channel 4294967295)
+widths : Reads "c 4294967295" (Asks (By 4294967295 Channel))
     × Reads "c 4294967296" Unreadable
-    × Reads "p 0 1 4294967295 18446744073709551615" (Put 0 1 4294967295 18446744073709551615)
+    × Reads "p 0 1 4294967295 18446744073709551615" (Asks (By 0 (Put 1 4294967295 18446744073709551615)))
     × Reads "p 0 1 4294967296 18446744073709551615" Unreadable
     × Reads "p 0 1 5 18446744073709551616" Unreadable
     × Reads "p 0 1 5 99999999999999999999999999999999" Unreadable
-unfolding fieldsOf allDigits decimal lineOf readLine
+unfolding fieldsOf allDigits decimal numbersOf formAmong lineOf readLine
 widths = (refl, refl, refl, refl, refl, refl)
 
 -- leading zeros are read; 80 bytes are a line, 81 are not
-zeros : Reads "c 007" (Channel 7)
-    × Reads "p 00 01 00004294967295 00018446744073709551615" (Put 0 1 4294967295 18446744073709551615)
-    × (readLine (bytes "c " ++ replicate 78 48) ≡ Channel 0)
+zeros : Reads "c 007" (Asks (By 7 Channel))
+    × Reads "p 00 01 00004294967295 00018446744073709551615" (Asks (By 0 (Put 1 4294967295 18446744073709551615)))
+    × (readLine (bytes "c " ++ replicate 78 48) ≡ Asks (By 0 Channel))
     × (readLine (bytes "c " ++ replicate 79 48) ≡ Unreadable)
     × (readLine (replicate 80 119) ≡ Unreadable)
     × (readLine (replicate 81 119) ≡ Unreadable)
-unfolding fieldsOf allDigits decimal lineOf readLine
+unfolding fieldsOf allDigits decimal numbersOf formAmong lineOf readLine
 zeros = (refl, refl, refl, refl, refl, refl)
 
 -- one space before each number, and nothing else besides digits
@@ -103,5 +90,5 @@ spaces : Reads "c  0" Unreadable
     × Reads "c 1a" Unreadable
     × Reads "c /" Unreadable
     × Reads "c :" Unreadable
-unfolding fieldsOf allDigits decimal lineOf readLine
+unfolding fieldsOf allDigits decimal numbersOf formAmong lineOf readLine
 spaces = (refl, refl, refl, refl, refl, refl, refl, refl, refl, refl, refl, refl, refl, refl, refl)

@@ -1,17 +1,17 @@
 -- The fields of a line, met from left to right. Assumes nothing.
 use mathlib.Core.Bool.{Bool, true, false, cond}
 use mathlib.Core.List.{List, [], _∷_}
-use mathlib.Core.Path.{_≡_, refl, sym, ap, _∙_}
+use mathlib.Core.Option.{Option, none, some}
+use mathlib.Core.Path.{_≡_, refl, ap, _∙_}
 use Prim.Native.Nat.{ℕ, _+_, _-_, _*_, _≤_, _<_}
 use native.Mathlib.Numerals.{add-one}
 use native.Mathlib.Omega.{arith}
 use borrow.Author.Tests.{eq-eqb, ne-eqb}
 use lib.Dec.{eqb}
 use lib.ListN.{length, drop, getD, drop-of-length-le}
-use lib.Seq.{drop-cons, drop-drop}
-use Rattle.lines.specs.Lines.{fieldsOf, joinFirst, Number, number, none, numberBelow}
+use lib.Seq.{drop-cons}
+use Rattle.lines.specs.Lines.{fieldsOf, joinFirst, numberBelow}
 use Rattle.lines.specs.Reading.{firstField, fieldFrom, found, fieldAt}
-use Rattle.lines.specs.declared.Field.{Field}
 use Rattle.lines.specs.declared.Field.the-variants.{Value, Other}
 use Rattle.lines.proofs.Numbers.{
   numberFrom,
@@ -22,7 +22,6 @@ use Rattle.lines.proofs.Numbers.{
   below-digits,
   above-digits,
   too-large,
-  number-below,
 }
 
 -- what is left of a field at a place of the line
@@ -49,7 +48,7 @@ pub record UnderWay (limit : ℕ) (line : List ℕ) (from at value : ℕ) : Type
   pub same-number : numberFrom limit 0 (fieldFrom line from) ≡ numberFrom limit value (fieldFrom line at)
 
 pub set-out : (limit : ℕ) (line : List ℕ) (from : ℕ) → 0 < limit → UnderWay limit line from from 0
-set-out limit line from some = record { ahead = omega arith; small = some; same-end = refl; same-number = refl }
+set-out limit line from above = record { ahead = omega arith; small = above; same-end = refl; same-number = refl }
 
 module _ {limit : ℕ} {line : List ℕ} {from at value : ℕ} (way : UnderWay limit line from at value) where
   pub one-further : at < length line
@@ -70,8 +69,8 @@ module _ {limit : ℕ} {line : List ℕ} {from at value : ℕ} (way : UnderWay l
       → numberFrom limit value (fieldFrom line at) ≡ none
       → fieldAt limit line from ≡ Other
   unfolding fieldAt
-  no-number some says =
-      ap (λ (x : Number). found x (from + length (fieldFrom line from)))
+  no-number filled says =
+      ap (λ (x : Option ℕ). found x (from + length (fieldFrom line from)))
       (from-zero limit (fieldFrom line from) (omega (arith, way .ahead, way .same-end)) ∙ way .same-number ∙ says)
 
   pub past-limit : at < length line
@@ -102,10 +101,10 @@ module _ {limit : ℕ} {line : List ℕ} {from at value : ℕ} (way : UnderWay l
   pub empty-field : fieldFrom line at ≡ [] → at ≡ from → fieldAt limit line from ≡ Other
   unfolding fieldAt
   empty-field done e =
-      ap (λ (x : Number). found x (from + length (fieldFrom line from)))
+      ap (λ (x : Option ℕ). found x (from + length (fieldFrom line from)))
       (no-bytes limit (fieldFrom line from) (omega (arith, way .same-end, ap length done, e)))
 
-  says-number : fieldFrom line at ≡ [] → from < at → numberBelow limit (fieldFrom line from) ≡ number value
+  says-number : fieldFrom line at ≡ [] → from < at → numberBelow limit (fieldFrom line from) ≡ some value
   says-number done further =
       from-zero limit (fieldFrom line from) (omega (arith, way .same-end, ap length done))
       ∙ way .same-number
@@ -136,67 +135,3 @@ pub first-and-behind : (bytes : List ℕ)
 unfolding fieldsOf firstField
 first-and-behind [] = refl
 first-and-behind (byte ∷ bytes) = first-by (eqb byte 32) byte bytes (first-and-behind bytes)
-
--- The first of some fields is a number, and more fields follow.
-pub record Holds (limit : ℕ) (fields : List (List ℕ)) (value : ℕ) (more : List (List ℕ)) : Type 0 where
-  pub field : List ℕ
-  pub split : fields ≡ field ∷ more
-  pub says : numberBelow limit field ≡ number value
-
--- The first of some fields is no number.
-pub record Fails (limit : ℕ) (fields : List (List ℕ)) : Type 0 where
-  pub field : List ℕ
-  pub more : List (List ℕ)
-  pub split : fields ≡ field ∷ more
-  pub says : numberBelow limit field ≡ none
-
-found-value : (x : Number) (end value place : ℕ) → found x end ≡ Value value place → (x ≡ number value) × (end ≡ place)
-found-value (number held) end value place e = (cc, cc)
-found-value none end value place e = (cc, cc)
-
-found-other : (x : Number) (end : ℕ) → found x end ≡ Other → x ≡ none
-found-other (number held) end e = cc
-found-other none end e = refl
-
--- what a field that was read says of the fields from its place on
-module _ (limit : ℕ) (line : List ℕ) (from : ℕ) {read : Field} (is : read ≡ fieldAt limit line from) where
-  pub fails : read ≡ Other → Fails limit (fieldsOf (drop from line))
-  unfolding fieldAt
-  fails other =
-      record {
-        field = fieldFrom line from;
-        more = behind (drop (length (fieldFrom line from)) (drop from line));
-        split = first-and-behind (drop from line);
-        says = found-other (numberBelow limit (fieldFrom line from)) _ (sym is ∙ other);
-      }
-
-  module _ {value end : ℕ} (told : read ≡ Value value end) where
-    value-and-end : (numberBelow limit (fieldFrom line from) ≡ number value)
-        × (from + length (fieldFrom line from) ≡ end)
-    unfolding fieldAt
-    value-and-end = found-value (numberBelow limit (fieldFrom line from)) _ value end (sym is ∙ told)
-
-    pub fits : value < limit
-    fits = number-below limit (fieldFrom line from) value (value-and-end .0)
-
-    split-at-end : fieldsOf (drop from line) ≡ fieldFrom line from ∷ behind (drop end line)
-    split-at-end =
-        first-and-behind (drop from line)
-        ∙ ap (λ (rest : List ℕ). fieldFrom line from ∷ behind rest)
-        (drop-drop (length (fieldFrom line from)) from line ∙ ap (λ (n : ℕ). drop n line) (value-and-end .1))
-
-    pub holds-last : length line ≤ end → Holds limit (fieldsOf (drop from line)) value []
-    holds-last past =
-        record {
-          field = fieldFrom line from;
-          split = rw (drop-of-length-le line past) at split-at-end;
-          says = value-and-end .0;
-        }
-
-    pub holds-before : end < length line → Holds limit (fieldsOf (drop from line)) value (fieldsOf (drop (end + 1) line))
-    holds-before here =
-        record {
-          field = fieldFrom line from;
-          split = rw add-one (rw (drop-cons line end 0 here) at split-at-end);
-          says = value-and-end .0;
-        }

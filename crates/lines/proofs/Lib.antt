@@ -1,5 +1,6 @@
--- Lines read from left to right: a number, the fields, the calls; and lines computed.
+-- Lines read from left to right: a number, the fields, the numbers behind a letter; and lines computed.
 pub mod Numbers
 pub mod Fields
-pub mod Calls
+pub mod Behind
+pub mod Letters
 pub mod Examples

@@ -1,24 +1,37 @@
 -- Document 01, "The session program": what a line of bytes asks for. Assumes nothing.
 use mathlib.Core.Bool.{Bool, true, false, cond, _&&_}
 use mathlib.Core.List.{List, [], _∷_}
-use Prim.Native.Nat.{ℕ, _+_, _-_, _*_, _^_}
+use mathlib.Core.Option.{Option, none, some}
+use Prim.Native.Char.{Char, code}
+use Prim.Native.Nat.{ℕ, _+_, _-_, _*_}
 use lib.Dec.{eqb, leb, ltb}
-use lib.ListN.{length}
+use lib.ListN.{length, getD}
+use Rattle.calls.specs.declared.Bound.the-variants.{Weak, Strong}
+use Rattle.calls.specs.declared.Call.{Call}
+use Rattle.calls.specs.declared.Call.the-variants.{By, Sweep}
+use Rattle.calls.specs.declared.Deed.the-variants.{Channel, NewThread, AttachInput, AttachOutput, Detach, End, Set, Put, Get, Consume, ConsumeUntil}
+use Rattle.calls.specs.declared.Which.the-variants.{Earliest, Latest, Named}
+use Rattle.calls.specs.Calls.{numberLimit, ticketLimit}
 use Rattle.lines.specs.declared.Line.{Line}
-use Rattle.lines.specs.declared.Line.the-variants.{Channel, NewThread, AttachInput, AttachOutput, Detach, End, Set, Put, GetEarliest, GetLatest, GetNamed, Consume, ConsumeUntil, WeakSweep, StrongSweep, Unreadable}
+use Rattle.lines.specs.declared.Line.the-variants.{Asks, Unreadable}
 
--- the fields of a line: its bytes, parted at each space
+-- ---- the fields of a line: its bytes, parted at each space
+
+abbrev pub space : ℕ
+space = code " "
+
 abbrev pub joinFirst : ℕ → List (List ℕ) → List (List ℕ)
 joinFirst byte [] = (byte ∷ []) ∷ []
 joinFirst byte (field ∷ fields) = (byte ∷ field) ∷ fields
 
 unfoldable pub fieldsOf : List ℕ → List (List ℕ)
 fieldsOf [] = [] ∷ []
-fieldsOf (byte ∷ bytes) = cond (eqb byte 32) ([] ∷ fieldsOf bytes) (joinFirst byte (fieldsOf bytes))
+fieldsOf (byte ∷ bytes) = cond (eqb byte space) ([] ∷ fieldsOf bytes) (joinFirst byte (fieldsOf bytes))
 
--- "decimal numbers": bytes 48 to 57, at least one. "Leading zeros are read."
+-- ---- "decimal numbers": digits, at least one. "Leading zeros are read."
+
 abbrev pub isDigit : ℕ → Bool
-isDigit byte = leb 48 byte && leb byte 57
+isDigit byte = leb (code "0") byte && leb byte (code "9")
 
 unfoldable pub allDigits : List ℕ → Bool
 allDigits [] = true
@@ -30,79 +43,84 @@ isEmpty (byte ∷ bytes) = false
 
 unfoldable pub decimal : ℕ → List ℕ → ℕ
 decimal before [] = before
-decimal before (byte ∷ bytes) = decimal (before * 10 + (byte - 48)) bytes
+decimal before (byte ∷ bytes) = decimal (before * 10 + (byte - code "0")) bytes
 
 -- what a field says: a number below the limit, or nothing
-pub data Number : Type 0 where
-  number : ℕ → Number
-  none : Number
-
-abbrev pub numberBelow : ℕ → List ℕ → Number
+abbrev pub numberBelow : ℕ → List ℕ → Option ℕ
 numberBelow limit field =
-    cond (isEmpty field) none (cond (allDigits field && ltb (decimal 0 field) limit) (number (decimal 0 field)) none)
+    cond (isEmpty field) none (cond (allDigits field && ltb (decimal 0 field) limit) (some (decimal 0 field)) none)
 
--- "Threads, channels, connections and times are 32-bit, tickets 64-bit."
-abbrev pub word : List ℕ → Number
-word field = numberBelow (2 ^ 32) field
+-- ---- the numbers of a line: as many as there are limits, each in a field of its own and below its limit; or nothing
 
-abbrev pub ticket : List ℕ → Number
-ticket field = numberBelow (2 ^ 64) field
+abbrev pub withNumber : Option ℕ → Option (List ℕ) → Option (List ℕ)
+withNumber none numbers = none
+withNumber (some number) none = none
+withNumber (some number) (some numbers) = some (number ∷ numbers)
 
--- a call from one, two, three or four numbers, each read; "every other line" is unreadable
-abbrev pub one : (ℕ → Line) → Number → Line
-one make (number a) = make a
-one make none = Unreadable
+unfoldable pub numbersOf : List ℕ → List (List ℕ) → Option (List ℕ)
+numbersOf [] [] = some []
+numbersOf [] (field ∷ fields) = none
+numbersOf (limit ∷ limits) [] = none
+numbersOf (limit ∷ limits) (field ∷ fields) = withNumber (numberBelow limit field) (numbersOf limits fields)
 
-abbrev pub two : (ℕ → ℕ → Line) → Number → Number → Line
-two make (number a) second = one (make a) second
-two make none second = Unreadable
+-- ---- the letters
 
-abbrev pub three : (ℕ → ℕ → ℕ → Line) → Number → Number → Number → Line
-three make (number a) second third = two (make a) second third
-three make none second third = Unreadable
+-- what follows a letter and what it asks for: the limits of its numbers, and the line that they make, in which `n 0` is the first of them
+pub record Form : Type 0 where
+  pub limits : List ℕ
+  pub line : (n : ℕ → ℕ) → Line
 
-abbrev pub four : (ℕ → ℕ → ℕ → ℕ → Line) → Number → Number → Number → Number → Line
-four make (number a) second third fourth = three (make a) second third fourth
-four make none second third fourth = Unreadable
+abbrev pub asks : List ℕ → ((ℕ → ℕ) → Call) → Form
+asks limits call = record { limits = limits; line = λ n. Asks (call n) }
 
--- the letters, by how many numbers follow: w, W; c, e; n, i, o, d, s, g, G; x, f, u; p
-abbrev pub alone : ℕ → Line
-alone letter = cond (eqb letter 119) WeakSweep (cond (eqb letter 87) StrongSweep Unreadable)
+-- a byte that is no letter: no number follows it, and it asks for nothing
+abbrev pub noForm : Form
+noForm = record { limits = []; line = λ n. Unreadable }
 
-abbrev pub withOne : ℕ → Number → Line
-withOne letter a = cond (eqb letter 99) (one Channel a) (cond (eqb letter 101) (one End a) Unreadable)
+-- "`c t`, `n t v`, `i t c`, `o t c`, `d t k`, `e t`, `s t v`, `p t k ts ticket`, `g t k` (earliest), `G t k` (latest),
+-- `x t k ts` (named), `f t k ts` (consume), `u t k ts` (until), `w`, `W` (weak, strong)."
+abbrev pub forms : List (Char × Form)
+forms =
+    ("c", asks (numberLimit ∷ []) (λ n. By (n 0) Channel))
+    ∷ ("n", asks (numberLimit ∷ numberLimit ∷ []) (λ n. By (n 0) (NewThread (n 1))))
+    ∷ ("i", asks (numberLimit ∷ numberLimit ∷ []) (λ n. By (n 0) (AttachInput (n 1))))
+    ∷ ("o", asks (numberLimit ∷ numberLimit ∷ []) (λ n. By (n 0) (AttachOutput (n 1))))
+    ∷ ("d", asks (numberLimit ∷ numberLimit ∷ []) (λ n. By (n 0) (Detach (n 1))))
+    ∷ ("e", asks (numberLimit ∷ []) (λ n. By (n 0) End))
+    ∷ ("s", asks (numberLimit ∷ numberLimit ∷ []) (λ n. By (n 0) (Set (n 1))))
+    ∷ ("p", asks (numberLimit ∷ numberLimit ∷ numberLimit ∷ ticketLimit ∷ []) (λ n. By (n 0) (Put (n 1) (n 2) (n 3))))
+    ∷ ("g", asks (numberLimit ∷ numberLimit ∷ []) (λ n. By (n 0) (Get (n 1) Earliest)))
+    ∷ ("G", asks (numberLimit ∷ numberLimit ∷ []) (λ n. By (n 0) (Get (n 1) Latest)))
+    ∷ ("x", asks (numberLimit ∷ numberLimit ∷ numberLimit ∷ []) (λ n. By (n 0) (Get (n 1) (Named (n 2)))))
+    ∷ ("f", asks (numberLimit ∷ numberLimit ∷ numberLimit ∷ []) (λ n. By (n 0) (Consume (n 1) (n 2))))
+    ∷ ("u", asks (numberLimit ∷ numberLimit ∷ numberLimit ∷ []) (λ n. By (n 0) (ConsumeUntil (n 1) (n 2))))
+    ∷ ("w", asks [] (λ n. Sweep Weak))
+    ∷ ("W", asks [] (λ n. Sweep Strong))
+    ∷ []
 
-abbrev pub withTwo : ℕ → Number → Number → Line
-withTwo letter a b =
-    cond (eqb letter 110) (two NewThread a b)
-    (cond (eqb letter 105) (two AttachInput a b)
-    (cond (eqb letter 111) (two AttachOutput a b)
-    (cond (eqb letter 100) (two Detach a b)
-    (cond (eqb letter 115) (two Set a b)
-    (cond (eqb letter 103) (two GetEarliest a b)
-    (cond (eqb letter 71) (two GetLatest a b) Unreadable))))))
+unfoldable pub formAmong : List (Char × Form) → ℕ → Form
+formAmong [] byte = noForm
+formAmong (row ∷ rows) byte = cond (eqb byte (code (row .0))) (row .1) (formAmong rows byte)
 
-abbrev pub withThree : ℕ → Number → Number → Number → Line
-withThree letter a b c =
-    cond (eqb letter 120) (three GetNamed a b c)
-    (cond (eqb letter 102) (three Consume a b c)
-    (cond (eqb letter 117) (three ConsumeUntil a b c) Unreadable))
+abbrev pub formOf : ℕ → Form
+formOf byte = formAmong forms byte
 
-abbrev pub withFour : ℕ → Number → Number → Number → Number → Line
-withFour letter a b c d = cond (eqb letter 112) (four Put a b c d) Unreadable
+-- ---- the line
+
+abbrev pub lineWith : Form → Option (List ℕ) → Line
+lineWith form none = Unreadable
+lineWith form (some numbers) = form .line (λ place. getD numbers place 0)
 
 -- "A line is a letter, then decimal numbers, one space before each": the first field is the letter alone, the others are the numbers
 unfoldable pub lineOf : List (List ℕ) → Line
 lineOf [] = Unreadable
 lineOf ([] ∷ fields) = Unreadable
-lineOf ((letter ∷ (more ∷ bytes)) ∷ fields) = Unreadable
-lineOf ((letter ∷ []) ∷ []) = alone letter
-lineOf ((letter ∷ []) ∷ (a ∷ [])) = withOne letter (word a)
-lineOf ((letter ∷ []) ∷ (a ∷ (b ∷ []))) = withTwo letter (word a) (word b)
-lineOf ((letter ∷ []) ∷ (a ∷ (b ∷ (c ∷ [])))) = withThree letter (word a) (word b) (word c)
-lineOf ((letter ∷ []) ∷ (a ∷ (b ∷ (c ∷ (d ∷ []))))) = withFour letter (word a) (word b) (word c) (ticket d)
-lineOf ((letter ∷ []) ∷ (a ∷ (b ∷ (c ∷ (d ∷ (e ∷ fields)))))) = Unreadable
+lineOf ((letter ∷ []) ∷ fields) = lineWith (formOf letter) (numbersOf (formOf letter .limits) fields)
+lineOf ((letter ∷ (byte ∷ bytes)) ∷ fields) = Unreadable
+
+abbrev pub longestLine : ℕ
+longestLine = 80
 
 -- "lines of at most 80 bytes"; "the empty and the overlong included"
 unfoldable pub readLine : List ℕ → Line
-readLine bytes = cond (leb (length bytes) 80) (lineOf (fieldsOf bytes)) Unreadable
+readLine bytes = cond (leb (length bytes) longestLine) (lineOf (fieldsOf bytes)) Unreadable

@@ -1,31 +1,22 @@
 // A line of a session, read as a call.
 ghost use mathlib.Core.Path.{_≡_};
-ghost use mathlib.Core.Bool.{cond};
-ghost use Prim.Native.Nat.{ℕ, _+_, _<_, _≤_};
-ghost use lib.Dec.{eqb};
-ghost use lib.ListN.{length};
-ghost use Rattle.lines.specs.Lines.{fieldsOf, lineOf, readLine};
-ghost use Rattle.lines.specs.Reading.{fieldAt, lineWith};
+ghost use Prim.Native.Nat.{_+_};
+ghost use lib.ListN.{drop, getD};
+ghost use Rattle.lines.specs.Lines.{formOf, lineWith, readLine};
+ghost use Rattle.lines.specs.Reading.{Known, TicketFourth, fieldAt, limitsFrom, numbersIn};
+use calls::Bound;
+use calls::Call;
+use calls::Deed;
+use calls::Which;
 
 // What a line asks for.
 pub enum Line {
-    Channel(u32),
-    NewThread(u32, u32),
-    AttachInput(u32, u32),
-    AttachOutput(u32, u32),
-    Detach(u32, u32),
-    End(u32),
-    Set(u32, u32),
-    Put(u32, u32, u32, u64),
-    GetEarliest(u32, u32),
-    GetLatest(u32, u32),
-    GetNamed(u32, u32, u32),
-    Consume(u32, u32, u32),
-    ConsumeUntil(u32, u32, u32),
-    WeakSweep,
-    StrongSweep,
+    Asks(Call),
     Unreadable,
 }
+
+// How many numbers follow a letter, and the largest that each may be.
+struct Limits(usize, [u64; MOST_NUMBERS]);
 
 // What fills a field of a line: a number, with the place where the field ends, or something else.
 enum Field {
@@ -33,12 +24,23 @@ enum Field {
     Other,
 }
 
-// How many numbers a call takes, and the call.
-struct Call(u8, Line);
+const LONGEST_LINE: usize = 80;
 
-const LARGEST_WORD: u64 = 4294967295;
+const LARGEST_NUMBER: u64 = 4294967295;
 
 const LARGEST_TICKET: u64 = 18446744073709551615;
+
+const MOST_NUMBERS: usize = 4;
+
+// The largest that each number of a line may be: where all are numbers, and where the fourth is a ticket.
+const NUMBERS: [u64; MOST_NUMBERS] = [LARGEST_NUMBER; MOST_NUMBERS];
+
+const TICKET_FOURTH: [u64; MOST_NUMBERS] = [
+    LARGEST_NUMBER,
+    LARGEST_NUMBER,
+    LARGEST_NUMBER,
+    LARGEST_TICKET,
+];
 
 // Reads a line: a letter, then decimal numbers, one space before each.
 pub fn read(line: &[u8]) -> Line
@@ -47,59 +49,70 @@ pub fn read(line: &[u8]) -> Line
     if line.len() == 0 {
         return Line::Unreadable;
     }
-    if line.len() > 80 {
+    if line.len() > LONGEST_LINE {
         return Line::Unreadable;
     }
-    parted(line)
+    let letter = line[0];
+    with_numbers(line, letter, limits_of(letter))
 }
 
-// Passes over the fields once. Where the line ends says how many numbers it has.
-fn parted(line: &[u8]) -> Line
-    requires { ⌜ 0 < length (now line) ⌝ }
-    ensures { λ r. ⌜ r ≡ lineOf (fieldsOf (now (line .entry))) ⌝ }
+// The numbers that follow a letter. A byte that is no letter has none.
+fn limits_of(letter: u8) -> Limits
+    ensures { λ r. ⌜ (limitsFrom (r .0) (r .1) ≡ formOf letter .limits) × Known (r .0) (r .1) ⌝ }
 {
-    let end = line.len();
-    let letter = line[0];
-    if end == 1 {
-        return called(letter, 0, 0, 0, 0, 0);
+    match letter {
+        b'c' => Limits(1, NUMBERS),
+        b'n' => Limits(2, NUMBERS),
+        b'i' => Limits(2, NUMBERS),
+        b'o' => Limits(2, NUMBERS),
+        b'd' => Limits(2, NUMBERS),
+        b'e' => Limits(1, NUMBERS),
+        b's' => Limits(2, NUMBERS),
+        b'p' => Limits(4, TICKET_FOURTH),
+        b'g' => Limits(2, NUMBERS),
+        b'G' => Limits(2, NUMBERS),
+        b'x' => Limits(3, NUMBERS),
+        b'f' => Limits(3, NUMBERS),
+        b'u' => Limits(3, NUMBERS),
+        b'w' => Limits(0, NUMBERS),
+        b'W' => Limits(0, NUMBERS),
+        _ => Limits(0, NUMBERS),
     }
-    if line[1] != b' ' {
+}
+
+// What a letter asks for with the numbers behind it, which are read from left to right.
+fn with_numbers(line: &[u8], letter: u8, limits: Limits) -> Line
+    requires { ⌜ Known (limits .0) (limits .1) ⌝ }
+    ensures { λ r. ⌜ r ≡ lineWith (formOf letter) (numbersIn (limitsFrom (limits .0) (limits .1)) (drop 1 (now (line .entry)))) ⌝ }
+{
+    let count = limits.0;
+    let largest = limits.1;
+    let mut numbers = [0u64; MOST_NUMBERS];
+    let mut at = 1;
+    let mut i = 0;
+    while i < count {
+        if line.len() <= at {
+            return Line::Unreadable;
+        }
+        if line[at] != b' ' {
+            return Line::Unreadable;
+        }
+        let Field::Value(number, end) = number_at(line, at + 1, largest[i]) else {
+            return Line::Unreadable;
+        };
+        numbers[i] = number;
+        at = end;
+        i += 1;
+    }
+    if at < line.len() {
         return Line::Unreadable;
     }
-    let Field::Value(a, first_end) = number_at(line, 2, LARGEST_WORD) else {
-        return Line::Unreadable;
-    };
-    let a = a as u32;
-    if end <= first_end {
-        return called(letter, 1, a, 0, 0, 0);
-    }
-    let Field::Value(b, second_end) = number_at(line, first_end + 1, LARGEST_WORD) else {
-        return Line::Unreadable;
-    };
-    let b = b as u32;
-    if end <= second_end {
-        return called(letter, 2, a, b, 0, 0);
-    }
-    let Field::Value(c, third_end) = number_at(line, second_end + 1, LARGEST_WORD) else {
-        return Line::Unreadable;
-    };
-    let c = c as u32;
-    if end <= third_end {
-        return called(letter, 3, a, b, c, 0);
-    }
-    let Field::Value(d, fourth_end) = number_at(line, third_end + 1, LARGEST_TICKET) else {
-        return Line::Unreadable;
-    };
-    if end <= fourth_end {
-        return called(letter, 4, a, b, c, d);
-    }
-    Line::Unreadable
+    called(letter, numbers)
 }
 
 // The number that fills the line from a place to the next space or to the end. A number too large is given up at the
 // digit that makes it so: the value stays at most the largest, however many zeros or digits there are.
 fn number_at(line: &[u8], from: usize, largest: u64) -> Field
-    requires { ⌜ 9 ≤ largest ⌝ }
     ensures { λ r. ⌜ r ≡ fieldAt (largest + 1) (now (line .entry)) from ⌝ }
 {
     let mut value: u64 = 0;
@@ -109,7 +122,10 @@ fn number_at(line: &[u8], from: usize, largest: u64) -> Field
         match byte {
             b'0'..=b'9' => {
                 let digit = (byte - b'0') as u64;
-                if value > (largest - digit) / 10 {
+                if value > largest / 10 {
+                    return Field::Other;
+                }
+                if digit > largest - value * 10 {
                     return Field::Other;
                 }
                 value = value * 10 + digit;
@@ -125,38 +141,31 @@ fn number_at(line: &[u8], from: usize, largest: u64) -> Field
     Field::Value(value, at)
 }
 
-// The call of a letter on a line with so many numbers; those that the line lacks are 0.
-fn called(letter: u8, count: u8, a: u32, b: u32, c: u32, d: u64) -> Line
-    ensures { λ r. ⌜ r ≡ lineWith letter count a b c d ⌝ }
+// The call of a letter with its numbers.
+fn called(letter: u8, numbers: [u64; MOST_NUMBERS]) -> Line
+    requires { ⌜ TicketFourth numbers ⌝ }
+    ensures { λ r. ⌜ r ≡ formOf letter .line (λ place. getD numbers place 0) ⌝ }
 {
-    let Call(wanted, call) = call_of(letter, a, b, c, d);
-    if count == wanted {
-        call
-    } else {
-        Line::Unreadable
-    }
-}
-
-// The call of a letter, whatever the count.
-fn call_of(letter: u8, a: u32, b: u32, c: u32, d: u64) -> Call
-    ensures { λ r. ⌜ ((count : ℕ) → cond (eqb count (r .0)) (r .1) Line.Unreadable ≡ lineWith letter count a b c d) ⌝ }
-{
+    let first = numbers[0] as u32;
+    let second = numbers[1] as u32;
+    let third = numbers[2] as u32;
+    let fourth = numbers[3];
     match letter {
-        b'c' => Call(1, Line::Channel(a)),
-        b'n' => Call(2, Line::NewThread(a, b)),
-        b'i' => Call(2, Line::AttachInput(a, b)),
-        b'o' => Call(2, Line::AttachOutput(a, b)),
-        b'd' => Call(2, Line::Detach(a, b)),
-        b'e' => Call(1, Line::End(a)),
-        b's' => Call(2, Line::Set(a, b)),
-        b'p' => Call(4, Line::Put(a, b, c, d)),
-        b'g' => Call(2, Line::GetEarliest(a, b)),
-        b'G' => Call(2, Line::GetLatest(a, b)),
-        b'x' => Call(3, Line::GetNamed(a, b, c)),
-        b'f' => Call(3, Line::Consume(a, b, c)),
-        b'u' => Call(3, Line::ConsumeUntil(a, b, c)),
-        b'w' => Call(0, Line::WeakSweep),
-        b'W' => Call(0, Line::StrongSweep),
-        _ => Call(0, Line::Unreadable),
+        b'c' => Line::Asks(Call::By(first, Deed::Channel)),
+        b'n' => Line::Asks(Call::By(first, Deed::NewThread(second))),
+        b'i' => Line::Asks(Call::By(first, Deed::AttachInput(second))),
+        b'o' => Line::Asks(Call::By(first, Deed::AttachOutput(second))),
+        b'd' => Line::Asks(Call::By(first, Deed::Detach(second))),
+        b'e' => Line::Asks(Call::By(first, Deed::End)),
+        b's' => Line::Asks(Call::By(first, Deed::Set(second))),
+        b'p' => Line::Asks(Call::By(first, Deed::Put(second, third, fourth))),
+        b'g' => Line::Asks(Call::By(first, Deed::Get(second, Which::Earliest))),
+        b'G' => Line::Asks(Call::By(first, Deed::Get(second, Which::Latest))),
+        b'x' => Line::Asks(Call::By(first, Deed::Get(second, Which::Named(third)))),
+        b'f' => Line::Asks(Call::By(first, Deed::Consume(second, third))),
+        b'u' => Line::Asks(Call::By(first, Deed::ConsumeUntil(second, third))),
+        b'w' => Line::Asks(Call::Sweep(Bound::Weak)),
+        b'W' => Line::Asks(Call::Sweep(Bound::Strong)),
+        _ => Line::Unreadable,
     }
 }

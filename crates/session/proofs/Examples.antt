@@ -4,7 +4,7 @@ use mathlib.Core.List.{List, [], _∷_, _++_}
 use Prim.Native.Nat.{ℕ}
 use lib.ListN.{replicate}
 use Rattle.desk.proofs.Computing.{computing}
-use Rattle.lines.specs.Lines.{fieldsOf, allDigits, decimal, lineOf, readLine}
+use Rattle.lines.specs.Lines.{fieldsOf, allDigits, decimal, numbersOf, formAmong, lineOf, readLine}
 use Rattle.text.specs.Text.{digits, decimalText, fieldText, fieldsText, answerText}
 use Rattle.session.specs.Turns.{turnBy}
 use Rattle.session.specs.Sessions.{linesOf, answers, sessionText}
@@ -13,7 +13,7 @@ use Rattle.session.proofs.Parts.{session-in-parts}
 
 -- every definition that a session computes with; named on an `unfolding` line, it opens them all
 unfoldable sessions : Unit {0}
-unfolding computing fieldsOf allDigits decimal lineOf readLine digits decimalText fieldText fieldsText answerText turnBy linesOf answers sessionText start readByte printedBy readerAfter printedFor printedAtEnd usedOf together printedInParts
+unfolding computing fieldsOf allDigits decimal numbersOf formAmong lineOf readLine digits decimalText fieldText fieldsText answerText turnBy linesOf answers sessionText start readByte printedBy readerAfter printedFor printedAtEnd usedOf together printedInParts
 sessions = tt
 
 -- ---- document 01, "Whole input and whole output"

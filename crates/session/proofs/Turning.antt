@@ -11,23 +11,21 @@ use Rattle.words.proofs.Laws.{count-le}
 use Rattle.rows.specs.Answers.{answer, answered, refusal}
 use Rattle.desk.specs.declared.Desk.{Desk}
 use Rattle.desk.specs.declared.Next.{Next}
-use Rattle.calls.specs.Calls.{Call, weak-sweep, strong-sweep}
-use Rattle.desk.specs.Calls.{checks, value, time, outcome, step, sliceAfter}
+use Rattle.calls.specs.declared.Call as code
+use Rattle.calls.specs.declared.Call.the-variants.{By, Sweep}
+use Rattle.calls.specs.Calls.{Call, asked, sweep}
+use Rattle.desk.specs.Calls.{checks, value, time, outcome, step, sliceAfter, sliceLeft}
 use Rattle.lines.specs.declared.Line.{Line}
-use Rattle.lines.specs.declared.Line.the-variants.{Channel, NewThread, AttachInput, AttachOutput, Detach, End, Set, Put, GetEarliest, GetLatest, GetNamed, Consume, ConsumeUntil, WeakSweep, StrongSweep, Unreadable}
+use Rattle.lines.specs.declared.Line.the-variants.{Asks, Unreadable}
 use Rattle.lines.specs.Lines.{readLine}
 use Rattle.text.specs.Text.{answerText, hasRoom, written}
 use Rattle.text.proofs.Room.{room}
-use Rattle.session.specs.Turns.{Turn, calling, sweeping, slice, turnBy, turn, printed}
+use Rattle.session.specs.Turns.{Turn, sweeping, slice, turnBy, turn, printed}
 use Rattle.session.specs.Tickets.{sweptCount, ticketCount}
 
 -- the turn of an answer, so many tickets of the slice, and a desk
 abbrev pub turned : Next → ℕ → List ℕ → Turn
 turned next number slice = record { answer = next .answer; tickets = take number slice; desk = next .desk }
-
--- a call that hands back no tickets
-pub call-turned : (d : Desk) (call : Call) {next : Next} → next ≡ step d call → calling d call [] ≡ turned next 0 []
-call-turned d call e = rw e
 
 -- the tickets of an accepted sweep, and none of a refused one, are the first so many of the slice
 taken : (accepted : Bool) (number : ℕ) (slice : List ℕ)
@@ -36,11 +34,20 @@ taken true number slice = refl
 taken false number slice = refl
 
 -- a sweep, which hands its tickets back in the slice
-pub sweep-turned : (d : Desk) (call : Call) {next : Next} {slice : List ℕ}
+sweep-turned : (d : Desk) (call : Call) {next : Next} {slice : List ℕ}
     → next ≡ step d call
     → slice ≡ sliceAfter d call
     → sweeping d call ≡ turned next (sweptCount (next .answer)) slice
 sweep-turned d call e s = rw (e, s, taken (eqb (step d call .answer .code) 0))
+
+-- any call, from what `make` promises
+pub made-turned : (d : Desk) (call : code.Call) {next : Next} {left : List ℕ}
+    → next ≡ step d (asked call slice)
+    → left ≡ sliceLeft d call slice
+    → turnBy d (Asks call) ≡ turned next (ticketCount (Asks call) (next .answer)) left
+unfolding turnBy ticketCount
+made-turned d (By thread deed) e s = rw e
+made-turned d (Sweep bound) e s = sweep-turned d (sweep bound slice) e s
 
 -- ---- no more tickets are printed than a word has places
 
@@ -65,33 +72,11 @@ sweep-few : (d : Desk) (call : Call) → value d call ≤ 64 → sweptCount (ste
 unfolding step outcome
 sweep-few d call few = accepted-few (refusal (checks d call)) (value d call) (time d call) (eqb (refusal (checks d call)) 0) refl few
 
--- the value of a sweep, how many items leave, is 64 at most
-weak-few : (d : Desk) (slice : List ℕ) → value d (weak-sweep slice) ≤ 64
-unfolding value
-weak-few d slice = count-few _
-
-strong-few : (d : Desk) (slice : List ℕ) → value d (strong-sweep slice) ≤ 64
-unfolding value
-strong-few d slice = count-few _
-
--- whatever the line, at most 64 tickets are printed for it
+-- whatever the line, at most 64 tickets are printed for it: a sweep's value is the number of items that leave
 pub tickets-few : (d : Desk) (line : Line) → ticketCount line (turnBy d line .answer) ≤ 64
-unfolding ticketCount turnBy
-tickets-few d (Channel thread) = zero-le
-tickets-few d (NewThread thread time) = zero-le
-tickets-few d (AttachInput thread channel) = zero-le
-tickets-few d (AttachOutput thread channel) = zero-le
-tickets-few d (Detach thread connection) = zero-le
-tickets-few d (End thread) = zero-le
-tickets-few d (Set thread time) = zero-le
-tickets-few d (Put thread connection timestamp ticket) = zero-le
-tickets-few d (GetEarliest thread connection) = zero-le
-tickets-few d (GetLatest thread connection) = zero-le
-tickets-few d (GetNamed thread connection timestamp) = zero-le
-tickets-few d (Consume thread connection timestamp) = zero-le
-tickets-few d (ConsumeUntil thread connection timestamp) = zero-le
-tickets-few d WeakSweep = sweep-few d (weak-sweep slice) (weak-few d slice)
-tickets-few d StrongSweep = sweep-few d (strong-sweep slice) (strong-few d slice)
+unfolding ticketCount turnBy value
+tickets-few d (Asks (By thread deed)) = zero-le
+tickets-few d (Asks (Sweep bound)) = sweep-few d (sweep bound slice) (count-few _)
 tickets-few d Unreadable = zero-le
 
 -- ---- a line that was read, run and answered

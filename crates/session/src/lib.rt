@@ -8,7 +8,7 @@ ghost use lib.ListN.{drop, length, replicate, take};
 ghost use Rattle.session.specs.Turns.{turnBy};
 ghost use Rattle.session.specs.Tickets.{sweptCount, ticketCount};
 ghost use Rattle.session.specs.Stream.{printedAtEnd, printedFor, readerAfter, start, usedOf};
-use calls::Which;
+use calls::Call;
 use desk::Desk;
 use desk::Next;
 use lines::Line;
@@ -45,27 +45,7 @@ fn run(desk: Desk, line: Line, slice: &mut [u64]) -> Next
         ) ⌝ }
 {
     match line {
-        Line::Channel(thread) => desk.channel(thread),
-        Line::NewThread(thread, time) => desk.new_thread(thread, time),
-        Line::AttachInput(thread, channel) => desk.attach_input(thread, channel),
-        Line::AttachOutput(thread, channel) => desk.attach_output(thread, channel),
-        Line::Detach(thread, connection) => desk.detach(thread, connection),
-        Line::End(thread) => desk.end(thread),
-        Line::Set(thread, time) => desk.set(thread, time),
-        Line::Put(thread, connection, timestamp, ticket) => {
-            desk.put(thread, connection, timestamp, ticket)
-        }
-        Line::GetEarliest(thread, connection) => desk.get(thread, connection, Which::Earliest),
-        Line::GetLatest(thread, connection) => desk.get(thread, connection, Which::Latest),
-        Line::GetNamed(thread, connection, timestamp) => {
-            desk.get(thread, connection, Which::Named(timestamp))
-        }
-        Line::Consume(thread, connection, timestamp) => desk.consume(thread, connection, timestamp),
-        Line::ConsumeUntil(thread, connection, timestamp) => {
-            desk.consume_until(thread, connection, timestamp)
-        }
-        Line::WeakSweep => desk.weak_sweep(slice),
-        Line::StrongSweep => desk.strong_sweep(slice),
+        Line::Asks(call) => desk.make(call, slice),
         Line::Unreadable => {
             let answer = Answer::with_code(UNREADABLE, 0, 0);
             Next { answer, desk }
@@ -85,9 +65,11 @@ fn ticket_count(line: Line, answer: Answer) -> u64
     ensures { λ r. ⌜ r ≡ ticketCount line answer ⌝ }
 {
     match line {
-        Line::WeakSweep => swept_count(answer),
-        Line::StrongSweep => swept_count(answer),
-        _ => 0,
+        Line::Asks(call) => match call {
+            Call::By(_, _) => 0,
+            Call::Sweep(_) => swept_count(answer),
+        },
+        Line::Unreadable => 0,
     }
 }
 
