@@ -18,7 +18,7 @@ use Rattle.desk.specs.Calls.{checks, value, time, outcome, step, sliceAfter, sl
 use Rattle.lines.specs.declared.Line.{Line}
 use Rattle.lines.specs.declared.Line.the-variants.{Asks, Unreadable}
 use Rattle.lines.specs.Lines.{readLine}
-use Rattle.text.specs.Text.{answerText, hasRoom, written}
+use Rattle.text.specs.Text.{answerText, hasRoom, longestAnswer, mostTickets, written}
 use Rattle.text.proofs.Room.{room}
 use Rattle.session.specs.Turns.{Turn, sweeping, slice, turnBy, turn, printed}
 use Rattle.session.specs.Tickets.{sweptCount, ticketCount}
@@ -49,31 +49,31 @@ unfolding turnBy ticketCount
 made-turned d (By thread deed) e s = rw e
 made-turned d (Sweep bound) e s = sweep-turned d (sweep bound slice) e s
 
--- ---- no more tickets are printed than a word has places
+-- ---- no more tickets are printed than the slice has places
 
--- of an answer whose value is 64 at most: accepted, its tickets are as many as its value; refused, there are none
-accepted-few : (code number time : ℕ) (accepted : Bool) → eqb code 0 ≡ accepted → number ≤ 64 → sweptCount (answered code number time) ≤ 64
+-- of an answer whose value is no more: accepted, its tickets are as many as its value; refused, there are none
+accepted-few : (code number time : ℕ) (accepted : Bool) → eqb code 0 ≡ accepted → number ≤ mostTickets → sweptCount (answered code number time) ≤ mostTickets
 unfolding answered
 accepted-few code number time true e few = simp e few
 accepted-few code number time false e few = refused (eqb code 12)
   where
     refused : (twelve : Bool)
-        → sweptCount (cond (eqb code 0) (answer code number time) (cond twelve (answer code number 0) (answer code 0 0))) ≤ 64
+        → sweptCount (cond (eqb code 0) (answer code number time) (cond twelve (answer code number 0) (answer code 0 0))) ≤ mostTickets
     refused true = simp e zero-le
     refused false = simp e zero-le
 
--- a word has at most 64 of its places set
-count-few : (w : ℕ) → count w ≤ 64
+-- a word has 64 places
+count-few : (w : ℕ) → count w ≤ mostTickets
 unfolding count
 count-few w = count-le (has w) 64
 
--- a sweep prints at most 64 tickets, if its value is 64 at most
-sweep-few : (d : Desk) (call : Call) → value d call ≤ 64 → sweptCount (step d call .answer) ≤ 64
+-- a sweep prints no more tickets, if its value is no more
+sweep-few : (d : Desk) (call : Call) → value d call ≤ mostTickets → sweptCount (step d call .answer) ≤ mostTickets
 unfolding step outcome
 sweep-few d call few = accepted-few (refusal (checks d call)) (value d call) (time d call) (eqb (refusal (checks d call)) 0) refl few
 
--- whatever the line, at most 64 tickets are printed for it: a sweep's value is the number of items that leave
-pub tickets-few : (d : Desk) (line : Line) → ticketCount line (turnBy d line .answer) ≤ 64
+-- whatever the line, no more tickets are printed for it: a sweep's value is the number of items that leave
+pub tickets-few : (d : Desk) (line : Line) → ticketCount line (turnBy d line .answer) ≤ mostTickets
 unfolding ticketCount turnBy value
 tickets-few d (Asks (By thread deed)) = zero-le
 tickets-few d (Asks (Sweep bound)) = sweep-few d (sweep bound slice) (count-few _)
@@ -87,13 +87,13 @@ pub turn-written : (d : Desk) (line : List ℕ) (asked : Line) (next : Next) (ti
     → asked ≡ readLine line
     → turnBy d asked ≡ turned next (ticketCount asked (next .answer)) tickets
     → number ≡ ticketCount asked (next .answer)
-    → length tickets ≡ 64
-    → at + 1407 ≤ length out
+    → length tickets ≡ mostTickets
+    → at + longestAnswer ≤ length out
     → (end ≡ cond (hasRoom at (length out) number (length tickets)) (at + length (answerText (next .answer .code) (next .answer .value) (next .answer .time) (take number tickets))) at)
     × (after ≡ cond (hasRoom at (length out) number (length tickets)) (written out at (answerText (next .answer .code) (next .answer .value) (next .answer .time) (take number tickets))) out)
     → (next .desk ≡ turn d line .desk) × (end ≡ at + length (printed (turn d line))) × (after ≡ written out at (printed (turn d line)))
 turn-written d line asked next tickets number out at after end read ran counted long fits wrote =
-    let few : number ≤ 64 = rw counted (rw ran at (tickets-few d asked)) in
+    let few : number ≤ mostTickets = rw counted (rw ran at (tickets-few d asked)) in
     let there : number ≤ length tickets = omega arith in
     let told = rw (room at (length out) number (length tickets) fits few there) at wrote in
     rw (← read, ran, ← counted) (refl, told .0, told .1)
