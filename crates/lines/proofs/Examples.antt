@@ -14,7 +14,7 @@ use Rattle.lines.specs.declared.Line.{Line}
 use Rattle.lines.specs.declared.Line.the-variants.{Asks, Unreadable}
 
 -- the bytes of a text of characters of one byte each
-abbrev bytes : String → List ℕ
+abbrev pub bytes : String → List ℕ
 bytes nothing = []
 bytes (character then text) = code character ∷ bytes text
 

@@ -24,7 +24,7 @@ enum Field {
     Other,
 }
 
-const LONGEST_LINE: usize = 80;
+pub const LONGEST_LINE: usize = 80;
 
 const LARGEST_NUMBER: u64 = 4294967295;
 

@@ -9,11 +9,11 @@ use borrow.Author.Tests.{le-ltb, lt-ltb, ne-eqb, ltb-true, ltb-false}
 use lib.Dec.{eqb, ltb}
 use lib.ListN.{length, take, drop, getD, length-append, length-drop, drop-of-length-le, take-append-drop}
 use lib.Seq.{drop-cons, take-suc, take-all, take-at, drop-append-add, drop-drop}
-use Rattle.text.specs.Text.{written}
+use Rattle.text.specs.Text.{longestAnswer, newline, written}
 use Rattle.desk.specs.declared.Desk.{Desk}
 use Rattle.session.specs.declared.Reader.{Reader}
 use Rattle.session.specs.Turns.{turn, printed}
-use Rattle.session.specs.Stream.{reader, lineSoFar, withByte, readByte, printedBy, readerAfter, printedFor, waits, usedOf, printedAtEnd}
+use Rattle.session.specs.Stream.{lineKept, reader, lineSoFar, withByte, readByte, printedBy, readerAfter, printedFor, waits, usedOf, printedAtEnd}
 
 -- ---- one part more, and one byte more
 
@@ -117,7 +117,7 @@ module _ (first : Reader) (part before : List ℕ) (r : Reader) (i at : ℕ) (ou
         }
 
     -- a byte that is no newline joins the line, and out stays
-    pub fed-joins : eqb byte 10 ≡ false → Fed first part before (withByte r byte) (i + 1) at out
+    pub fed-joins : eqb byte newline ≡ false → Fed first part before (withByte r byte) (i + 1) at out
     unfolding readByte printedBy
     fed-joins other =
         let none : printedBy r byte ≡ [] = rw other in
@@ -129,23 +129,23 @@ module _ (first : Reader) (part before : List ℕ) (r : Reader) (i at : ℕ) (ou
     -- a newline where the longest answer fits ends the line: its turn is taken, and its answer stands in out
     pub fed-ends : (line : List ℕ) (desk : Desk) (end : ℕ) (after : List ℕ)
         → line ≡ lineSoFar r
-        → eqb byte 10 ≡ true
-        → at + 1407 ≤ length out
+        → eqb byte newline ≡ true
+        → at + longestAnswer ≤ length out
         → length after ≡ length out
         → (desk ≡ turn (r .desk) line .desk) × (end ≡ at + length (printed (turn (r .desk) line))) × (after ≡ written out at (printed (turn (r .desk) line)))
         → Fed first part before (reader desk (r .line) 0) (i + 1) end after
     unfolding readByte printedBy written
-    fed-ends line desk end after whole newline fits same turned =
+    fed-ends line desk end after whole ended fits same turned =
         let told = rw whole at turned in
-        let enough : 1407 ≤ length before - at = omega (arith, fed-length) in
-        let says : printedBy r byte ≡ printed (turn (r .desk) (lineSoFar r)) = rw newline in
-        let next : readByte r byte ≡ reader desk (r .line) 0 = rw (newline, told .0) in
+        let enough : longestAnswer ≤ length before - at = omega (arith, fed-length) in
+        let says : printedBy r byte ≡ printed (turn (r .desk) (lineSoFar r)) = rw ended in
+        let next : readByte r byte ≡ reader desk (r .line) 0 = rw (ended, told .0) in
         let ends : end ≡ at + length (printedBy r byte) = rw says (told .1) in
         let wrote : after ≡ take at out ++ printedBy r byte ++ drop end out = rw (says, told .1) (told .2) in
         let long : length (take at out ++ printedBy r byte ++ drop end out) ≡ length out = sym (ap length wrote) ∙ same in
         let parts = rw (length-append, length-append, front, length-drop) at long in
         let room : end ≤ length before = omega (arith, fed-length, fed .place) in
-        rw next at (fed-byte end after (rw (newline, le-ltb _ 1407 enough)) ends room wrote)
+        rw next at (fed-byte end after (rw (ended, le-ltb _ longestAnswer enough)) ends room wrote)
 
   -- after the last byte, all bytes are used
   pub fed-all : length part ≤ i → i ≡ usedOf first part (length before)
@@ -155,10 +155,10 @@ module _ (first : Reader) (part before : List ℕ) (r : Reader) (i at : ℕ) (ou
       omega arith
 
   -- at a newline where the longest answer might not fit, the bytes before it are used
-  pub fed-waits : (byte : ℕ) → i < length part → byte ≡ getD part i 0 → eqb byte 10 ≡ true → length out - at < 1407 → i ≡ usedOf first part (length before)
-  fed-waits byte more is newline short =
-      let scarce : length before - at < 1407 = rw fed-length at short in
-      let waiting : waits byte (length before - at) ≡ true = rw (newline, lt-ltb _ 1407 scarce) in
+  pub fed-waits : (byte : ℕ) → i < length part → byte ≡ getD part i 0 → eqb byte newline ≡ true → length out - at < longestAnswer → i ≡ usedOf first part (length before)
+  fed-waits byte more is ended short =
+      let scarce : length before - at < longestAnswer = rw fed-length at short in
+      let waiting : waits byte (length before - at) ≡ true = rw (ended, lt-ltb _ longestAnswer scarce) in
       let parted : drop i part ≡ byte ∷ drop (i + 1) part = rw (add-one, is) (drop-cons part i 0 more) in
       let none = rw (parted, used-waiting r byte (drop (i + 1) part) (length before - at) waiting) at (fed .used) in
       omega arith
@@ -173,24 +173,24 @@ module _ (first : Reader) (part before : List ℕ) (r : Reader) (i at : ℕ) (ou
 
 -- ---- the bytes of a line that are there
 
--- a line has 81 places, so no more than 81 bytes of it are there, whatever number is held
-pub kept-line : (line : List ℕ) (held number : ℕ) → number ≡ min held 81 → length line ≡ 81 → take number line ≡ take held line
-kept-line line held number is long = rw is (by-test (ltb held 81) refl)
+-- a line has no more places than are kept, so no more of its bytes are there, whatever number is held
+pub kept-line : (line : List ℕ) (held number : ℕ) → number ≡ min held lineKept → length line ≡ lineKept → take number line ≡ take held line
+kept-line line held number is long = rw is (by-test (ltb held lineKept) refl)
   where
-    by-test : (test : Bool) → ltb held 81 ≡ test → take (min held 81) line ≡ take held line
+    by-test : (test : Bool) → ltb held lineKept ≡ test → take (min held lineKept) line ≡ take held line
     by-test true small =
-        let least : min held 81 ≡ held = omega (arith, ltb-true held 81 small) in
+        let least : min held lineKept ≡ held = omega (arith, ltb-true held lineKept small) in
         rw least
     by-test false large =
-        let most : min held 81 ≡ 81 = omega (arith, ltb-false held 81 large) in
-        rw most (take-all 81 line (omega arith) ∙ sym (take-all held line (omega (arith, ltb-false held 81 large))))
+        let most : min held lineKept ≡ lineKept = omega (arith, ltb-false held lineKept large) in
+        rw most (take-all lineKept line (omega arith) ∙ sym (take-all held line (omega (arith, ltb-false held lineKept large))))
 
 -- ---- the end of the input
 
 -- where the longest answer fits, a newline alone is used, and prints what the end of the input prints for a line that lacks it
 pub finished : (r : Reader) (room : ℕ)
     → (r .held ≡ 0 → ⊥)
-    → 1407 ≤ room
-    → printedFor r (take (usedOf r (10 ∷ []) room) (10 ∷ [])) ≡ printedAtEnd r
+    → longestAnswer ≤ room
+    → printedFor r (take (usedOf r (newline ∷ []) room) (newline ∷ [])) ≡ printedAtEnd r
 unfolding usedOf printedFor printedBy printedAtEnd
-finished r room some fits = rw (le-ltb room 1407 fits, ne-eqb (r .held) 0 some) (append-nil _)
+finished r room some fits = rw (le-ltb room longestAnswer fits, ne-eqb (r .held) 0 some) (append-nil _)

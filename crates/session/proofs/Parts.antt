@@ -10,39 +10,40 @@ use lib.Dec.{eqb, leb, ltb}
 use lib.ListN.{length, set, take, length-append, length-take, length-set}
 use lib.Seq.{take-all, take-append-le, take-suc-set, append-snoc}
 use Rattle.lines.specs.declared.Line.{Line}
-use Rattle.lines.specs.Lines.{readLine}
+use Rattle.lines.specs.Lines.{longestLine, readLine}
+use Rattle.text.specs.Text.{newline}
 use Rattle.session.specs.declared.Reader.{Reader}
 use Rattle.session.specs.Turns.{turn, turnBy, printed}
 use Rattle.session.specs.Sessions.{linesOf, answers, sessionText}
 use Rattle.session.proofs.Feeding.{reader-append, printed-append}
-use Rattle.session.specs.Stream.{reader, lineSoFar, start, withByte, readByte, printedBy, readerAfter, printedFor, printedAtEnd, together, printedInParts, SessionInParts}
+use Rattle.session.specs.Stream.{lineKept, reader, lineSoFar, start, withByte, readByte, printedBy, readerAfter, printedFor, printedAtEnd, together, printedInParts, SessionInParts}
 
--- ---- the first 81 bytes of a line are enough
+-- ---- what is kept of a line is enough
 
-pub read-front : (line : List ℕ) → readLine (take 81 line) ≡ readLine line
+pub read-front : (line : List ℕ) → readLine (take lineKept line) ≡ readLine line
 unfolding readLine
-read-front line = by-length (leb (length line) 80) refl
+read-front line = by-length (leb (length line) longestLine) refl
   where
-    by-length : (short : Bool) → leb (length line) 80 ≡ short → readLine (take 81 line) ≡ readLine line
-    by-length true e = ap readLine (take-all 81 line (omega (arith, leb-true (length line) 80 e)))
+    by-length : (short : Bool) → leb (length line) longestLine ≡ short → readLine (take lineKept line) ≡ readLine line
+    by-length true e = ap readLine (take-all lineKept line (omega (arith, leb-true (length line) longestLine e)))
     by-length false e =
-        let long : 80 < length (take 81 line) = omega (arith, leb-false (length line) 80 e, length-take 81 line) in
-        simp (e, lt-leb (length (take 81 line)) 80 long)
+        let long : longestLine < length (take lineKept line) = omega (arith, leb-false (length line) longestLine e, length-take lineKept line) in
+        simp (e, lt-leb (length (take lineKept line)) longestLine long)
 
 -- ---- the lines of an input that begins with a line without newlines
 
 abbrev pub Unbroken : List ℕ → Type 0
 Unbroken [] = Unit {0}
-Unbroken (byte ∷ line) = (eqb byte 10 ≡ false) × Unbroken line
+Unbroken (byte ∷ line) = (eqb byte newline ≡ false) × Unbroken line
 
-pub unbroken-snoc : (line : List ℕ) (byte : ℕ) → Unbroken line → eqb byte 10 ≡ false → Unbroken (line ++ (byte ∷ []))
+pub unbroken-snoc : (line : List ℕ) (byte : ℕ) → Unbroken line → eqb byte newline ≡ false → Unbroken (line ++ (byte ∷ []))
 unbroken-snoc [] byte u e = (e, tt)
 unbroken-snoc (first ∷ line) byte u e = (u .0, unbroken-snoc line byte (u .1) e)
 
 -- a newline ends it
 pub lines-ended : (line : List ℕ) (byte : ℕ) (bytes : List ℕ)
     → Unbroken line
-    → eqb byte 10 ≡ true
+    → eqb byte newline ≡ true
     → linesOf (line ++ byte ∷ bytes) ≡ line ∷ linesOf bytes
 unfolding linesOf
 lines-ended [] byte bytes u e = rw e
@@ -54,13 +55,13 @@ unfolding linesOf
 lines-last first [] u = rw (u .0)
 lines-last first (second ∷ line) u = rw (u .0, lines-last second line (u .1))
 
--- ---- a reader amid a line: what it holds is the first 81 bytes of what came since the last newline
+-- ---- a reader amid a line: it holds the first bytes of what came since the last newline, as many as are kept
 
 pub record Amid (r : Reader) (line : List ℕ) : Type 0 where
   pub unbroken : Unbroken line
-  pub front : lineSoFar r ≡ take 81 line
-  pub count : r .held ≡ min 81 (length line)
-  pub places : length (r .line) ≡ 81
+  pub front : lineSoFar r ≡ take lineKept line
+  pub count : r .held ≡ min lineKept (length line)
+  pub places : length (r .line) ≡ lineKept
 
 pub amid-turn : (r : Reader) (line : List ℕ) → Amid r line → turn (r .desk) (lineSoFar r) ≡ turn (r .desk) line
 amid-turn r line amid = ap (λ (said : Line). turnBy (r .desk) said) (ap readLine (amid .front) ∙ read-front line)
@@ -70,38 +71,38 @@ unfolding start
 at-start = record { unbroken = tt; front = refl; count = refl; places = refl }
 
 module _ (r : Reader) (line : List ℕ) (byte : ℕ) (amid : Amid r line) where
-  pub amid-newline : eqb byte 10 ≡ true → Amid (readByte r byte) []
+  pub amid-newline : eqb byte newline ≡ true → Amid (readByte r byte) []
   unfolding readByte
   amid-newline e = rw e (record { unbroken = tt; front = refl; count = refl; places = amid .places })
 
-  pub amid-other : eqb byte 10 ≡ false → Amid (readByte r byte) (line ++ (byte ∷ []))
+  pub amid-other : eqb byte newline ≡ false → Amid (readByte r byte) (line ++ (byte ∷ []))
   unfolding readByte
-  amid-other e = rw e (by-room (ltb (r .held) 81) refl)
+  amid-other e = rw e (by-room (ltb (r .held) lineKept) refl)
     where
       longer : length (line ++ (byte ∷ [])) ≡ length line + 1
       longer = length-append line (byte ∷ [])
 
-      by-room : (room : Bool) → ltb (r .held) 81 ≡ room → Amid (withByte r byte) (line ++ (byte ∷ []))
+      by-room : (room : Bool) → ltb (r .held) lineKept ≡ room → Amid (withByte r byte) (line ++ (byte ∷ []))
       by-room true t =
-          let here : r .held < length (r .line) = omega (arith, ltb-true (r .held) 81 t, amid .places) in
-          let whole : length line ≤ 80 = omega (arith, ltb-true (r .held) 81 t, amid .count) in
+          let here : r .held < length (r .line) = omega (arith, ltb-true (r .held) lineKept t, amid .places) in
+          let whole : length line ≤ longestLine = omega (arith, ltb-true (r .held) lineKept t, amid .count) in
           rw t
           (record {
             unbroken = unbroken-snoc line byte (amid .unbroken) e;
             front =
                 ap (λ (n : ℕ). take n (set (r .line) (r .held) byte)) (add-one (r .held))
                 ∙ take-suc-set (r .line) (r .held) byte here
-                ∙ ap (λ (l : List ℕ). l ++ (byte ∷ [])) (amid .front ∙ take-all 81 line (omega arith))
-                ∙ sym (take-all 81 (line ++ (byte ∷ [])) (omega (arith, longer)));
+                ∙ ap (λ (l : List ℕ). l ++ (byte ∷ [])) (amid .front ∙ take-all lineKept line (omega arith))
+                ∙ sym (take-all lineKept (line ++ (byte ∷ [])) (omega (arith, longer)));
             count = omega (arith, longer, amid .count);
             places = length-set (r .line) (r .held) byte ∙ amid .places;
           })
       by-room false t =
-          let long : 81 ≤ length line = omega (arith, ltb-false (r .held) 81 t, amid .count) in
+          let long : lineKept ≤ length line = omega (arith, ltb-false (r .held) lineKept t, amid .count) in
           rw t
           (record {
             unbroken = unbroken-snoc line byte (amid .unbroken) e;
-            front = amid .front ∙ sym (take-append-le 81 line (byte ∷ []) long);
+            front = amid .front ∙ sym (take-append-le lineKept line (byte ∷ []) long);
             count = omega (arith, longer, amid .count);
             places = amid .places;
           })
@@ -126,10 +127,10 @@ pub rest-of-session : (bytes : List ℕ) (r : Reader) (line : List ℕ)
 unfolding printedFor readerAfter readByte printedBy answers
 rest-of-session [] r line amid = rw append-nil (at-end r line amid)
 rest-of-session (byte ∷ bytes) r line amid =
-    append-assoc (printedBy r byte) _ _ ∙ by-byte (eqb byte 10) refl (rest-of-session bytes (readByte r byte))
+    append-assoc (printedBy r byte) _ _ ∙ by-byte (eqb byte newline) refl (rest-of-session bytes (readByte r byte))
   where
-    by-byte : (newline : Bool)
-        → eqb byte 10 ≡ newline
+    by-byte : (ended : Bool)
+        → eqb byte newline ≡ ended
         → ((next : List ℕ)
         → Amid (readByte r byte) next
         → printedFor (readByte r byte) bytes ++ printedAtEnd (readerAfter (readByte r byte) bytes)

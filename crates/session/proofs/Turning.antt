@@ -8,17 +8,21 @@ use lib.ListN.{length, take}
 use native.Mathlib.Omega.{arith}
 use Rattle.words.specs.Words.{count, has}
 use Rattle.words.proofs.Laws.{count-le}
-use Rattle.rows.specs.Answers.{answer, answered, refusal}
+use borrow.Author.Tests.{eqb-true}
+use Rattle.rows.specs.Answers.{Told, Check, decided}
+use Rattle.rows.proofs.Laws.{bool-cases}
+use Rattle.rows.proofs.Checks.{coded, passed, pass-decided}
 use Rattle.desk.specs.declared.Desk.{Desk}
 use Rattle.desk.specs.declared.Next.{Next}
 use Rattle.calls.specs.declared.Call as code
 use Rattle.calls.specs.declared.Call.the-variants.{By, Sweep}
 use Rattle.calls.specs.Calls.{Call, asked, sweep}
-use Rattle.desk.specs.Calls.{checks, value, time, outcome, step, sliceAfter, sliceLeft}
+use Rattle.desk.specs.Calls.{checks, told, outcome, step, sliceAfter, sliceLeft}
+use Rattle.desk.proofs.Outcome.{codes}
 use Rattle.lines.specs.declared.Line.{Line}
 use Rattle.lines.specs.declared.Line.the-variants.{Asks, Unreadable}
 use Rattle.lines.specs.Lines.{readLine}
-use Rattle.text.specs.Text.{answerText, hasRoom, written}
+use Rattle.text.specs.Text.{answerText, hasRoom, longestAnswer, mostTickets, written}
 use Rattle.text.proofs.Room.{room}
 use Rattle.session.specs.Turns.{Turn, sweeping, slice, turnBy, turn, printed}
 use Rattle.session.specs.Tickets.{sweptCount, ticketCount}
@@ -49,32 +53,28 @@ unfolding turnBy ticketCount
 made-turned d (By thread deed) e s = rw e
 made-turned d (Sweep bound) e s = sweep-turned d (sweep bound slice) e s
 
--- ---- no more tickets are printed than a word has places
+-- ---- no more tickets are printed than the slice has places
 
--- of an answer whose value is 64 at most: accepted, its tickets are as many as its value; refused, there are none
-accepted-few : (code number time : ℕ) (accepted : Bool) → eqb code 0 ≡ accepted → number ≤ 64 → sweptCount (answered code number time) ≤ 64
-unfolding answered
-accepted-few code number time true e few = simp e few
-accepted-few code number time false e few = refused (eqb code 12)
-  where
-    refused : (twelve : Bool)
-        → sweptCount (cond (eqb code 0) (answer code number time) (cond twelve (answer code number 0) (answer code 0 0))) ≤ 64
-    refused true = simp e zero-le
-    refused false = simp e zero-le
+-- of an answer that tells no more where it is accepted; refused, there are none
+accepted-few : (checks : List Check) (told : Told) → coded checks ≡ true → told .value ≤ mostTickets → sweptCount (decided checks told) ≤ mostTickets
+accepted-few checks told codes few =
+    bool-cases (eqb (decided checks told .code) 0)
+    (λ zero. rw (pass-decided checks told (passed checks told codes (eqb-true _ 0 zero))) few)
+    (λ refused. rw refused zero-le)
 
--- a word has at most 64 of its places set
-count-few : (w : ℕ) → count w ≤ 64
+-- a word has 64 places
+count-few : (w : ℕ) → count w ≤ mostTickets
 unfolding count
 count-few w = count-le (has w) 64
 
--- a sweep prints at most 64 tickets, if its value is 64 at most
-sweep-few : (d : Desk) (call : Call) → value d call ≤ 64 → sweptCount (step d call .answer) ≤ 64
+-- a sweep prints no more tickets, if its value is no more
+sweep-few : (d : Desk) (call : Call) → told d call .value ≤ mostTickets → sweptCount (step d call .answer) ≤ mostTickets
 unfolding step outcome
-sweep-few d call few = accepted-few (refusal (checks d call)) (value d call) (time d call) (eqb (refusal (checks d call)) 0) refl few
+sweep-few d call few = accepted-few (checks d call) (told d call) (codes d call) few
 
--- whatever the line, at most 64 tickets are printed for it: a sweep's value is the number of items that leave
-pub tickets-few : (d : Desk) (line : Line) → ticketCount line (turnBy d line .answer) ≤ 64
-unfolding ticketCount turnBy value
+-- whatever the line, no more tickets are printed for it: a sweep's value is the number of items that leave
+pub tickets-few : (d : Desk) (line : Line) → ticketCount line (turnBy d line .answer) ≤ mostTickets
+unfolding ticketCount turnBy told
 tickets-few d (Asks (By thread deed)) = zero-le
 tickets-few d (Asks (Sweep bound)) = sweep-few d (sweep bound slice) (count-few _)
 tickets-few d Unreadable = zero-le
@@ -87,13 +87,13 @@ pub turn-written : (d : Desk) (line : List ℕ) (asked : Line) (next : Next) (ti
     → asked ≡ readLine line
     → turnBy d asked ≡ turned next (ticketCount asked (next .answer)) tickets
     → number ≡ ticketCount asked (next .answer)
-    → length tickets ≡ 64
-    → at + 1407 ≤ length out
+    → length tickets ≡ mostTickets
+    → at + longestAnswer ≤ length out
     → (end ≡ cond (hasRoom at (length out) number (length tickets)) (at + length (answerText (next .answer .code) (next .answer .value) (next .answer .time) (take number tickets))) at)
     × (after ≡ cond (hasRoom at (length out) number (length tickets)) (written out at (answerText (next .answer .code) (next .answer .value) (next .answer .time) (take number tickets))) out)
     → (next .desk ≡ turn d line .desk) × (end ≡ at + length (printed (turn d line))) × (after ≡ written out at (printed (turn d line)))
 turn-written d line asked next tickets number out at after end read ran counted long fits wrote =
-    let few : number ≤ 64 = rw counted (rw ran at (tickets-few d asked)) in
+    let few : number ≤ mostTickets = rw counted (rw ran at (tickets-few d asked)) in
     let there : number ≤ length tickets = omega arith in
     let told = rw (room at (length out) number (length tickets) fits few there) at wrote in
     rw (← read, ran, ← counted) (refl, told .0, told .1)

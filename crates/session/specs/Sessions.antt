@@ -5,9 +5,10 @@ use Prim.Native.Nat.{ℕ}
 use lib.Dec.{eqb}
 use Rattle.desk.specs.declared.Desk.{Desk}
 use Rattle.desk.specs.Desk.{fresh}
+use Rattle.text.specs.Text.{newline}
 use Rattle.session.specs.Turns.{turn, printed}
 
--- the lines of the input, parted at each newline (10): "nothing after a final newline is a line", "The last line may lack its newline."
+-- the lines of the input, parted at each newline: "nothing after a final newline is a line", "The last line may lack its newline."
 abbrev pub joinLine : Bool → ℕ → List (List ℕ) → List (List ℕ)
 joinLine true byte lines = [] ∷ lines
 joinLine false byte [] = (byte ∷ []) ∷ []
@@ -15,7 +16,7 @@ joinLine false byte (line ∷ lines) = (byte ∷ line) ∷ lines
 
 unfoldable pub linesOf : List ℕ → List (List ℕ)
 linesOf [] = []
-linesOf (byte ∷ bytes) = joinLine (eqb byte 10) byte (linesOf bytes)
+linesOf (byte ∷ bytes) = joinLine (eqb byte newline) byte (linesOf bytes)
 
 -- what is printed for some lines, one after the other
 unfoldable pub answers : Desk → List (List ℕ) → List ℕ

@@ -8,11 +8,17 @@ use lib.Dec.{eqb, ltb}
 use lib.ListN.{length, replicate, set, take}
 use Rattle.desk.specs.declared.Desk.{Desk}
 use Rattle.desk.specs.Desk.{fresh}
+use Rattle.lines.specs.Lines.{longestLine}
+use Rattle.text.specs.Text.{longestAnswer, newline}
 use Rattle.session.specs.declared.Reader.{Reader}
 use Rattle.session.specs.Turns.{turn, printed}
 use Rattle.session.specs.Sessions.{sessionText}
 
--- the desk, and the bytes of the line that has not ended yet: of an overlong line the first 81 are enough to know that it is overlong
+-- of an overlong line so many bytes are enough to know that it is overlong
+abbrev pub lineKept : ℕ
+lineKept = longestLine + 1
+
+-- the desk, and the bytes that are kept of the line that has not ended yet
 abbrev pub reader : Desk → List ℕ → ℕ → Reader
 reader desk line held = record { desk = desk; line = line; held = held }
 
@@ -21,17 +27,17 @@ lineSoFar r = take (r .held) (r .line)
 
 -- "starting with a fresh desk"
 unfoldable pub start : Reader
-start = reader fresh (replicate 81 0) 0
+start = reader fresh (replicate lineKept 0) 0
 
 -- one byte: a newline ends the line, any other byte joins it
 abbrev pub withByte : Reader → ℕ → Reader
-withByte r byte = cond (ltb (r .held) 81) (reader (r .desk) (set (r .line) (r .held) byte) (r .held + 1)) r
+withByte r byte = cond (ltb (r .held) lineKept) (reader (r .desk) (set (r .line) (r .held) byte) (r .held + 1)) r
 
 unfoldable pub readByte : Reader → ℕ → Reader
-readByte r byte = cond (eqb byte 10) (reader (turn (r .desk) (lineSoFar r) .desk) (r .line) 0) (withByte r byte)
+readByte r byte = cond (eqb byte newline) (reader (turn (r .desk) (lineSoFar r) .desk) (r .line) 0) (withByte r byte)
 
 unfoldable pub printedBy : Reader → ℕ → List ℕ
-printedBy r byte = cond (eqb byte 10) (printed (turn (r .desk) (lineSoFar r))) []
+printedBy r byte = cond (eqb byte newline) (printed (turn (r .desk) (lineSoFar r))) []
 
 -- the reader after some bytes, and what is printed for them
 unfoldable pub readerAfter : Reader → List ℕ → Reader
@@ -48,9 +54,13 @@ printedAtEnd r = cond (eqb (r .held) 0) [] (printed (turn (r .desk) (lineSoFar r
 
 -- ---- one part of the input, as far as the output has room
 
+-- at the end, nothing is written where the longest answer might not fit
+abbrev pub writtenAtEnd : Reader → ℕ → List ℕ
+writtenAtEnd r room = cond (ltb room longestAnswer) [] (printedAtEnd r)
+
 -- how many bytes are used of a part, with this much room for the output: a newline waits where the longest answer might not fit
 abbrev pub waits : ℕ → ℕ → Bool
-waits byte room = eqb byte 10 && ltb room 1407
+waits byte room = eqb byte newline && ltb room longestAnswer
 
 unfoldable pub usedOf : Reader → List ℕ → ℕ → ℕ
 usedOf r [] room = 0

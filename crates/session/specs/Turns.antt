@@ -13,7 +13,7 @@ use Rattle.desk.specs.Calls.{step, sliceAfter}
 use Rattle.lines.specs.declared.Line.{Line}
 use Rattle.lines.specs.declared.Line.the-variants.{Asks, Unreadable}
 use Rattle.lines.specs.Lines.{readLine}
-use Rattle.text.specs.Text.{answerText}
+use Rattle.text.specs.Text.{answerText, mostTickets}
 
 -- the answer to a line, the tickets printed after it, and the next desk
 pub record Turn : Type 0 where
@@ -23,7 +23,7 @@ pub record Turn : Type 0 where
 
 -- "its slice has 64 places"
 abbrev pub slice : List ℕ
-slice = replicate 64 0
+slice = replicate mostTickets 0
 
 abbrev pub calling : Desk → Call → List ℕ → Turn
 calling d call tickets = record { answer = step d call .answer; tickets = tickets; desk = step d call .desk }

@@ -1,32 +1,31 @@
 // A session: lines of bytes in, lines of answers out, over one desk.
 ghost use mathlib.Core.Path.{_≡_};
-ghost use mathlib.Core.List.{[], _++_};
-ghost use mathlib.Core.Bool.{cond};
+ghost use mathlib.Core.List.{_++_};
 ghost use Prim.Native.Nat.{min};
-ghost use lib.Dec.{ltb};
 ghost use lib.ListN.{drop, length, replicate, take};
+ghost use Rattle.text.specs.Text.{mostTickets};
 ghost use Rattle.session.specs.Turns.{turnBy};
 ghost use Rattle.session.specs.Tickets.{sweptCount, ticketCount};
-ghost use Rattle.session.specs.Stream.{printedAtEnd, printedFor, readerAfter, start, usedOf};
+ghost use Rattle.session.specs.Stream.{lineKept, printedFor, readerAfter, start, usedOf, writtenAtEnd};
 use calls::Call;
 use desk::Desk;
 use desk::Next;
+use lines::LONGEST_LINE;
 use lines::Line;
 use rows::Answer;
-
-// The places that the longest answer can take.
-const LONGEST_ANSWER: usize = 1407;
+use text::LONGEST_ANSWER;
+use text::MOST_TICKETS;
 
 // The code of a line that is not readable.
 const UNREADABLE: u32 = 99;
 
-// A line of 81 bytes is overlong, so no more of a line is kept.
-const KEPT: usize = 81;
+// A line with one byte more than the longest is overlong, so no more of a line is kept.
+const LINE_KEPT: usize = LONGEST_LINE + 1;
 
 // The desk, and what was read of a line that has not ended.
 pub struct Reader {
     pub desk: Desk,
-    pub line: [u8; 81],
+    pub line: [u8; LINE_KEPT],
     pub held: usize,
 }
 
@@ -39,7 +38,7 @@ pub struct Fed {
 
 // The call that a line asks for. A sweep hands its tickets back in the slice.
 fn run(desk: Desk, line: Line, slice: &mut [u64]) -> Next
-    requires { ⌜ now slice ≡ replicate 64 0 ⌝ }
+    requires { ⌜ now slice ≡ replicate mostTickets 0 ⌝ }
     ensures { λ r. ⌜ (
         turnBy desk line ≡ record { answer = r .answer; tickets = take (ticketCount line (r .answer)) (now (slice .exit)); desk = r .desk }
         ) ⌝ }
@@ -75,9 +74,9 @@ fn ticket_count(line: Line, answer: Answer) -> u64
 
 // How many bytes of the line are there: a reader may say that it holds more than a line keeps.
 fn kept(held: usize) -> usize
-    ensures { λ r. ⌜ r ≡ min held 81 ⌝ }
+    ensures { λ r. ⌜ r ≡ min held lineKept ⌝ }
 {
-    if held < KEPT { held } else { KEPT }
+    if held < LINE_KEPT { held } else { LINE_KEPT }
 }
 
 // The start of a session.
@@ -86,7 +85,7 @@ pub fn started() -> Reader
 {
     Reader {
         desk: Desk::fresh(),
-        line: [0u8; 81],
+        line: [0u8; LINE_KEPT],
         held: 0,
     }
 }
@@ -112,7 +111,7 @@ pub fn feed(reader: Reader, part: &[u8], out: &mut [u8]) -> Fed
         let byte = part[i];
         if byte != b'\n' {
             i += 1;
-            if held < KEPT {
+            if held < LINE_KEPT {
                 line[held] = byte;
                 held += 1;
             }
@@ -121,7 +120,7 @@ pub fn feed(reader: Reader, part: &[u8], out: &mut [u8]) -> Fed
                 break;
             }
             i += 1;
-            let mut slice = [0u64; 64];
+            let mut slice = [0u64; MOST_TICKETS];
             let asked = lines::read(&line[..kept(held)]);
             let next = run(desk, asked, &mut slice);
             desk = next.desk;
@@ -149,7 +148,7 @@ pub fn feed(reader: Reader, part: &[u8], out: &mut [u8]) -> Fed
 // The end of the input: answers a last line that lacks its newline. Where the longest answer might not fit in out, nothing is written.
 pub fn finish(reader: Reader, out: &mut [u8]) -> usize
     ensures { λ r. ⌜ (
-        let text = cond (ltb (length (now (out .entry))) 1407) [] (printedAtEnd reader) in
+        let text = writtenAtEnd reader (length (now (out .entry))) in
         (r ≡ length text) × (now (out .exit) ≡ text ++ drop (length text) (now (out .entry)))
         ) ⌝ }
 {

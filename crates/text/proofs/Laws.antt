@@ -5,7 +5,7 @@ use mathlib.Core.List.{List, [], _∷_, _++_}
 use native.Mathlib.Omega.{arith}
 use lib.ListN.{length, take, drop, length-append}
 use lib.Seq.{sets, sets-eq, length-sets, length-take-le, take-at}
-use Rattle.text.specs.Text.{fieldText, fieldsText, answerText, written}
+use Rattle.text.specs.Text.{fieldText, fieldsText, answerText, written, mostTickets}
 use Rattle.text.proofs.Digits.{decimal-length, decimal-some, decimal-below}
 use Rattle.text.proofs.Stores.{sets-append}
 
@@ -18,7 +18,7 @@ fields-length (v ∷ rest) = simp length-append (omega (arith, decimal-length v,
 pub answer-length : (code value time : ℕ) (tickets : List ℕ)
     → code < 2 ^ 32
     → time < 2 ^ 32
-    → length tickets ≤ 64
+    → length tickets ≤ mostTickets
     → length (answerText code value time tickets) ≤ 1387
 unfolding answerText fieldText
 answer-length code value time tickets small-code small-time few =

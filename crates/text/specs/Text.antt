@@ -1,6 +1,7 @@
 -- An answer as text. Document 01, "The session program": the program prints code, value, time, and for an accepted
 -- sweep the tickets, with one space between and a newline after them.
--- A text is the list of its bytes: 48 to 57 are the digits 0 to 9, 32 is the space, 10 the newline.
+-- A text is the list of its bytes: 48 to 57 are the digits 0 to 9, 32 is the space.
+use Prim.Native.Char.{code}
 use Prim.Native.Nat.{ℕ, zero, suc, _+_, _/_, _%_}
 use mathlib.Core.List.{List, [], _∷_, _++_}
 use mathlib.Core.Bool.{Bool, cond, _&&_}
@@ -28,15 +29,25 @@ unfoldable pub fieldsText : List ℕ → List ℕ
 fieldsText [] = []
 fieldsText (v ∷ rest) = fieldText v ++ fieldsText rest
 
+abbrev pub newline : ℕ
+newline = code "\n"
+
 -- the line of an answer: code, value, time and the tickets, one space between, and the newline
 unfoldable pub answerText : ℕ → ℕ → ℕ → List ℕ → List ℕ
-answerText code value time tickets = decimalText code ++ fieldText value ++ fieldText time ++ fieldsText tickets ++ (10 ∷ [])
+answerText code value time tickets = decimalText code ++ fieldText value ++ fieldText time ++ fieldsText tickets ++ (newline ∷ [])
 
--- whether a line is written: out has 1407 places from `at` on, and there are `count` tickets, at most 64.
--- 1407 is the longest line with three numbers of 20 digits: 20 + 21 + 21 + 64 * 21 + 1. The law `answer-length` says
--- that no line is longer than 1387, since code and time have 32 bits.
+-- "its slice has 64 places", so no sweep hands more tickets back
+abbrev pub mostTickets : ℕ
+mostTickets = 64
+
+-- the places that the longest line can take, with three numbers of 20 digits: 20 + 21 + 21 + 64 * 21 + 1. The law `answer-length`
+-- says that no line is longer than 1387, since code and time have 32 bits.
+abbrev pub longestAnswer : ℕ
+longestAnswer = 1407
+
+-- whether a line is written: the longest fits from `at` on, and there are `count` tickets, no more than a sweep can hand back
 unfoldable pub hasRoom : ℕ → ℕ → ℕ → ℕ → Bool
-hasRoom at places count held = leb (at + 1407) places && leb count 64 && leb count held
+hasRoom at places count held = leb (at + longestAnswer) places && leb count mostTickets && leb count held
 
 -- the bytes of out with the text in the places from `at` on
 unfoldable pub written : List ℕ → ℕ → List ℕ → List ℕ

@@ -6,11 +6,11 @@ ghost use Prim.Native.Nat.{_+_, _*_, _≤_};
 ghost use lib.ListN.{length, take};
 ghost use Rattle.text.specs.Text.{decimalText, fieldText, fieldsText, answerText, hasRoom, written, Wrote};
 
-// The places that the longest line can take, whatever its numbers: see `hasRoom`.
-const LONGEST_LINE: usize = 1407;
+// The places that the longest line can take, whatever its numbers.
+pub const LONGEST_ANSWER: usize = 1407;
 
 // The session's slice has 64 places, so no sweep hands more tickets back.
-const MOST_TICKETS: usize = 64;
+pub const MOST_TICKETS: usize = 64;
 
 // How many decimal digits a number has. The powers of ten are multiplied up, since a product is cheaper than a quotient.
 fn digit_count(number: u64) -> usize
@@ -99,10 +99,10 @@ fn write_line(
 fn has_room(at: usize, places: usize, count: usize, held: usize) -> bool
     ensures { λ r. ⌜ r ≡ hasRoom at places count held ⌝ }
 {
-    if places < LONGEST_LINE {
+    if places < LONGEST_ANSWER {
         return false;
     }
-    if at > places - LONGEST_LINE {
+    if at > places - LONGEST_ANSWER {
         return false;
     }
     if count > MOST_TICKETS {

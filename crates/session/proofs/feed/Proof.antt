@@ -1,5 +1,5 @@
--- `session::feed` meets its contract. The loop's invariant: `Fed`, and a line has 81 places. The measure is what is left of the part.
--- Assumes nothing.
+-- After some bytes of the part, the reader, the bytes used and the text in out are those that the definitions say (`Fed`), and a byte more keeps
+-- this: it joins the line, or ends it, is answered and leaves the text behind the answer. Assumes nothing.
 use mathlib.Core.Path.{_≡_, refl, sym}
 use Prim.Native.Nat.{_+_, _≤_, _-_}
 use native.Mathlib.Omega.{arith}
@@ -7,14 +7,15 @@ use borrow.Author.Needs.{needs}
 use borrow.Author.Tests.{eq-eqb, ne-eqb, lt-ltb, le-ltb}
 use lib.ListN.{length, length-set}
 use lib.Seq.{length-take-le}
-use Rattle.session.specs.Stream.{reader}
+use Rattle.text.specs.Text.{longestAnswer}
+use Rattle.session.specs.Stream.{lineKept, reader}
 use Rattle.session.proofs.Turning.{turn-written}
 use Rattle.session.proofs.Feeding.{Fed, fed-none, fed-joins, fed-ends, fed-length, fed-all, fed-waits, fed-promised, kept-line}
 use Rattle.session.proofs.feed.Statement.{statement}
 use Rattle.session.proofs.feed.Tie as tie
 
 abbrev Inv-loop : tie.InvT-loop
-Inv-loop part out₀ desk₀ line₀ held₀ at₀ i₀ out desk line held at i = Fed (reader desk₀ line₀ held₀) part out₀ (reader desk line held) i at out × (length line ≡ 81)
+Inv-loop part out₀ desk₀ line₀ held₀ at₀ i₀ out desk line held at i = Fed (reader desk₀ line₀ held₀) part out₀ (reader desk line held) i at out × (length line ≡ lineKept)
 
 abbrev μ-loop : tie.MeasureT-loop
 μ-loop part out₀ desk₀ line₀ held₀ at₀ i₀ out desk line held at i = length part - i
@@ -22,76 +23,28 @@ abbrev μ-loop : tie.MeasureT-loop
 loop-holds : tie.Need-loop-holds Inv-loop μ-loop
 loop-holds c = (fed-none _ _ _, search needs)
 
-shared-slice-read-byte : tie.Need-shared-slice-read-byte Inv-loop μ-loop
-shared-slice-read-byte c = omega arith
-
-add-i : tie.Need-add-i Inv-loop μ-loop
-add-i c = omega arith
-
-array-write-line : tie.Need-array-write-line Inv-loop μ-loop
-array-write-line c = omega arith
-
-add-held : tie.Need-add-held Inv-loop μ-loop
-add-held c = omega arith
-
-loop-less : tie.Need-loop-less Inv-loop μ-loop
-loop-less c = omega arith
-
 loop-again : tie.Need-loop-again Inv-loop μ-loop
 loop-again c =
     let entered = c .before .before .before in
     let looped = entered .before .loop in
     let joins = fed-joins _ _ _ _ _ _ _ (looped .inv .0) _ (entered .loop-test .taken) refl (ne-eqb _ _ (c .before .if1 .taken)) in
-    (rw (lt-ltb _ 81 (c .if2 .taken)) at joins, simp length-set (looped .inv .1))
-
-loop-less-2 : tie.Need-loop-less-2 Inv-loop μ-loop
-loop-less-2 c = omega arith
+    (rw (lt-ltb _ lineKept (c .if2 .taken)) at joins, simp length-set (looped .inv .1))
 
 loop-again-2 : tie.Need-loop-again-2 Inv-loop μ-loop
 loop-again-2 c =
     let entered = c .before .before .before in
     let looped = entered .before .loop in
     let joins = fed-joins _ _ _ _ _ _ _ (looped .inv .0) _ (entered .loop-test .taken) refl (ne-eqb _ _ (c .before .if1 .taken)) in
-    let full : 81 ≤ looped .held = omega arith in
-    (rw (le-ltb _ 81 full) at joins, looped .inv .1)
+    let full : lineKept ≤ looped .held = omega arith in
+    (rw (le-ltb _ lineKept full) at joins, looped .inv .1)
 
 sub-if3 : tie.Need-sub-if3 Inv-loop μ-loop
 sub-if3 c =
     let fed = c .before .before .before .loop .inv .0 in
     omega (arith, fed-length _ _ _ _ _ _ _ fed, fed .room)
 
-add-i-2 : tie.Need-add-i-2 Inv-loop μ-loop
-add-i-2 c = omega arith
-
-kept-requires : tie.Need-kept-requires Inv-loop μ-loop
-kept-requires c κs = search needs
-
-array-share-prefix-line : tie.Need-array-share-prefix-line Inv-loop μ-loop
-array-share-prefix-line c = omega arith
-
 slice-aggregate-read : tie.Need-slice-aggregate-read Inv-loop μ-loop
 slice-aggregate-read c = sym (length-take-le _ _ (omega arith))
-
-read-requires : tie.Need-read-requires Inv-loop μ-loop
-read-requires c κs = search needs
-
-slice-aggregate-run : tie.Need-slice-aggregate-run Inv-loop μ-loop
-slice-aggregate-run c = search needs
-
-run-requires : tie.Need-run-requires Inv-loop μ-loop
-run-requires c κs = search needs
-
-ticket-count-requires : tie.Need-ticket-count-requires Inv-loop μ-loop
-ticket-count-requires c κs = search needs
-
-slice-aggregate-write-answer : tie.Need-slice-aggregate-write-answer Inv-loop μ-loop
-slice-aggregate-write-answer c = search needs
-
-write-answer-requires : tie.Need-write-answer-requires Inv-loop μ-loop
-write-answer-requires c κs = search needs
-
-loop-less-3 : tie.Need-loop-less-3 Inv-loop μ-loop
-loop-less-3 c = omega arith
 
 loop-again-3 : tie.Need-loop-again-3 Inv-loop μ-loop
 loop-again-3 c =
@@ -103,7 +56,7 @@ loop-again-3 c =
     let roomy = lent .before in
     let entered = roomy .before .before .before in
     let looped = entered .before .loop in
-    let fits : looped .at + 1407 ≤ length (looped .out) = omega (arith, roomy .if3 .left) in
+    let fits : looped .at + longestAnswer ≤ length (looped .out) = omega (arith, roomy .if3 .left) in
     let line = kept-line (looped .line) (looped .held) _ (lent .kept .ensures) (looped .inv .1) in
     let turned = turn-written _ _ _ _ _ _ _ _ _ _ (reading .read .ensures) (ran .run .ensures) (counted .ticket-count .ensures) (ran .run .kept .1 .1 .0) fits (wrote .write-answer .ensures) in (
       fed-ends _ _ _ _ _ _ _ (looped .inv .0) _ (entered .loop-test .taken) refl _ _ _ _ line
@@ -135,26 +88,26 @@ feed-spec =
     Inv-loop
     μ-loop
     loop-holds
-    shared-slice-read-byte
-    add-i
-    array-write-line
-    add-held
-    loop-less
+    (λ c. omega arith)
+    (λ c. omega arith)
+    (λ c. omega arith)
+    (λ c. omega arith)
+    (λ c. omega arith)
     loop-again
-    loop-less-2
+    (λ c. omega arith)
     loop-again-2
     sub-if3
-    add-i-2
-    kept-requires
-    array-share-prefix-line
+    (λ c. omega arith)
+    (λ c κs. search needs)
+    (λ c. omega arith)
     slice-aggregate-read
-    read-requires
-    slice-aggregate-run
-    run-requires
-    ticket-count-requires
-    slice-aggregate-write-answer
-    write-answer-requires
-    loop-less-3
+    (λ c κs. search needs)
+    (λ c. search needs)
+    (λ c κs. search needs)
+    (λ c κs. search needs)
+    (λ c. search needs)
+    (λ c κs. search needs)
+    (λ c. omega arith)
     loop-again-3
     same-length
     returns

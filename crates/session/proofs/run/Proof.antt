@@ -1,5 +1,5 @@
 -- A readable line's call is made on a slice of zeros, and its turn is what `make` promises; an unreadable line's turn is computed. Assumes nothing.
-use Rattle.rows.specs.Answers.{answered}
+use Rattle.rows.specs.Answers.{withCode}
 use Rattle.session.specs.Turns.{turnBy}
 use Rattle.session.specs.Tickets.{ticketCount}
 use Rattle.session.proofs.Turning.{made-turned}
@@ -15,7 +15,7 @@ returns c =
     rw (matched .line .given .1) (made-turned _ _ (made .0) (made .1))
 
 returns-2 : tie.Need-returns-2
-unfolding turnBy ticketCount answered
+unfolding turnBy ticketCount withCode
 returns-2 c = rw (c .before .enum-told .given .1, c .with-code .ensures)
 
 pub run-spec : {M : Type 1} → statement M

@@ -1,4 +1,4 @@
--- `session::started` meets its contract. Assumes nothing.
+-- The desk is fresh, and the other fields compute. Assumes nothing.
 use Rattle.session.specs.Stream.{start}
 use borrow.Author.Needs.{needs}
 use Rattle.session.proofs.started.Statement.{statement}

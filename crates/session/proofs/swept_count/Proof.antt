@@ -1,4 +1,4 @@
--- `session::swept_count` meets its contract. Assumes nothing.
+-- By the code: accepted or not. Assumes nothing.
 use borrow.Author.Tests.{eq-eqb, ne-eqb}
 use Rattle.session.proofs.swept_count.Statement.{statement}
 use Rattle.session.proofs.swept_count.Tie as tie

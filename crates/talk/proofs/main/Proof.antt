@@ -1,13 +1,10 @@
 -- `talk::main` meets its contract. Assumes nothing.
 use mathlib.Core.Path.{_≡_, sym}
-use mathlib.Core.Bool.{cond}
-use mathlib.Core.List.{[]}
 use Prim.Native.Nat.{_≤_}
-use lib.Dec.{ltb}
 use lib.ListN.{length}
 use lib.Seq.{length-take-le}
 use borrow.Author.Needs.{needs}
-use Rattle.session.specs.Stream.{printedAtEnd}
+use Rattle.session.specs.Stream.{writtenAtEnd}
 use Rattle.session.proofs.Room.{written-fits}
 use Rattle.talk.proofs.main.Statement.{statement}
 use Rattle.talk.proofs.main.Tie as tie
@@ -23,7 +20,7 @@ written-below : (c : tie.After-finish Inv-loop μ-loop) → c .finish .result �
 written-below c =
     let at = c .before .before .before .loop in
     written-fits
-    (cond (ltb (length (at .out)) 1407) [] (printedAtEnd (at .reader)))
+    (writtenAtEnd (at .reader) (length (at .out)))
     (at .out)
     (c .finish .last .1 .0)
     (c .finish .ensures .0)

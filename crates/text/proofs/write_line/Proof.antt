@@ -1,7 +1,7 @@
--- `text::write_line` meets its contract. Assumes nothing.
+-- The three numbers, the tickets and the newline are written one behind the other, and what each writer promises chains. Assumes nothing.
 use native.Mathlib.Omega.{arith}
 use lib.ListN.{length-set}
-use Rattle.text.specs.Text.{answerText}
+use Rattle.text.specs.Text.{answerText, newline}
 use Rattle.text.proofs.Stores.{next, one-wrote}
 use borrow.Author.Needs.{needs}
 use Rattle.text.proofs.write_line.Statement.{statement}
@@ -19,7 +19,7 @@ returns c =
     let code-done = value-done .before .before .before .before in
     let code-value = next (code-done .write-number .ensures .0) (value-done .write-field .ensures .0) in
     let numbers = next code-value (time-done .write-field2 .ensures .0) in
-    (next (next numbers (tickets-done .write-fields .ensures .0)) (one-wrote _ _ 10), omega arith)
+    (next (next numbers (tickets-done .write-fields .ensures .0)) (one-wrote _ _ newline), omega arith)
 
 pub write-line-spec : {M : Type 1} → statement M
 write-line-spec =
