@@ -1,21 +1,18 @@
--- The checks of each call agree with the refusals that the view names. Assumes nothing.
+-- The checks of each call agree with the refusals that the view names: check by check, what the tables say is what the view says. Assumes nothing.
 use Rattle.obeys.proofs.Basis.{_∙_, _≡_, ap, refl, subst, sym, false, true, _⊎_, inl, inr, ⊎-elim, Option·none-ne-some, Option·some-injective, none, List, _<_, _≤_, ℕ, arith, eqb, ltb, length, eq-eqb, leb-false, leb-true}
-use Rattle.obeys.proofs.Basis.{lt-ltb, ltb-false, ltb-true, count, has, lowestFree, count-ext, count-le, free-below, free-lacks, Call, by, sweep, isOpen, Strong, Weak, AttachInput, AttachOutput, Channel, Consume}
-use Rattle.obeys.proofs.Basis.{ConsumeUntil, Detach, End, Get, NewThread, Put, Set, State, Which, Earliest, Latest, Named, answered, inward, never, outward, Found, At, Nothing, bool-cases, true-not-false, placeOf, state}
-use Rattle.obeys.proofs.Basis.{connectionAt, inUse, isConnection, isInput, isLiving, used-below, isBelow, itemsBelow, channel-exists, checks, connection-goes, connection-owned, isFound, item-fits, item-found, item-open}
-use Rattle.obeys.proofs.Basis.{place-free, slice-long, soughtBy, thread-lives, time, time-visible, timestamp-absent, timestamp-given, value, which-given, connectionsOf, itemsOf, threadsOf, strongBound, visibleTime}
-use Rattle.obeys.proofs.Basis.{weakBound, Desk, Connection, FreeChannel, FreeConnection, FreeThread, Listed, Lowest, desk-full, inputFrom, named-never, no-channel, no-input, no-output, no-thread, no-timestamp, not-its-own}
-use Rattle.obeys.proofs.Basis.{not-open, nothing-unseen, outputTo, rule, slice-short, stateOn, table-full, taken, too-early, unused, DeskInOrder, viewOf}
+use Rattle.obeys.proofs.Basis.{ltb-false, ltb-true, count, has, lowestFree, Call, by, sweep, isOpen, Strong, Weak, AttachInput, AttachOutput, Channel, Consume, ConsumeUntil, Detach, End, Get, NewThread, Put, Set, State}
+use Rattle.obeys.proofs.Basis.{Which, Earliest, Latest, Named, answered, inward, never, outward, Found, At, Nothing, placeOf, state, inUse, isInput, connectionAt, isConnection, isLiving, itemPlaces, itemsBelow, checks}
+use Rattle.obeys.proofs.Basis.{time, value, channel-exists, connection-goes, connection-owned, isFound, item-fits, item-found, item-open, place-free, slice-long, soughtBy, thread-lives, time-visible, timestamp-absent}
+use Rattle.obeys.proofs.Basis.{timestamp-given, which-given, connectionsOf, itemsOf, threadsOf, strongBound, visibleTime, weakBound, Desk, Connection, FreeChannel, FreeConnection, FreeThread, Listed, Lowest, TakesUnseen}
+use Rattle.obeys.proofs.Basis.{desk-full, inputFrom, named-never, no-channel, no-input, no-output, no-thread, no-timestamp, not-its-own, not-open, nothing-unseen, outputTo, rule, slice-short, stateOn, table-full, taken}
+use Rattle.obeys.proofs.Basis.{too-early, DeskInOrder, viewOf, is-open, true-not-false, free-lacks, free-below, count-le, used-below, in-use, in-use-has, owned-used, used-reads, found-holds, below-never}
+use Rattle.rules.proofs.Laws.{smallest-one}
 use Rattle.rules.proofs.OneList.{listed-one}
-use Rattle.obeys.proofs.Chosen.{place-found}
-use Rattle.obeys.proofs.Words.{in-use, in-use-has}
-use Rattle.obeys.proofs.Bounds.{visible, weak, strong}
+use Rattle.obeys.proofs.Bounds.{strong, visible, weak}
 use Rattle.obeys.proofs.Found.{takes, takes-none}
-use Rattle.obeys.proofs.Folds.{smallest-one}
-use Rattle.obeys.proofs.Seen.{is-open}
-use Rattle.obeys.proofs.Listed.{below, listed, items-below-at}
-use Rattle.obeys.proofs.Lookup.{lives-view, dead-view, unused-view, owned-view, view-owned, input-view, holds-of, item-view, no-item-view, owned-used, used-reads, writes-view, used-not-free}
-use Rattle.obeys.proofs.Frame.{Matches, Agree, plain, check}
+use Rattle.obeys.proofs.Frame.{Agree, Matches, check, plain}
+use Rattle.obeys.proofs.Listed.{below, listed}
+use Rattle.obeys.proofs.Lookup.{dead-view, input-view, item-view, lives-view, no-item-view, owned-view, unused-view, used-not-free, view-owned, writes-view}
 
 -- ---- free places
 
@@ -60,15 +57,6 @@ module _ (d : Desk) (o : DeskInOrder d) where
   other-way connection used =
       ⊎-elim (λ e. inl (eq-eqb _ inward e)) (λ e. inr (eq-eqb _ outward e)) (o .attached connection (in-use-has (d .attached) connection 32 used) .direction)
 
-  -- ---- the number of items
-
-  pub counted : count (itemsBelow (itemsOf d) never) ≡ count (d .present)
-  unfolding count isBelow
-  counted = count-ext _ _ 64 (λ place inside. items-below-at (itemsOf d) never inside ∙
-      bool-cases (has (d .present) place)
-      (λ e. rw e (lt-ltb _ never (o .timestamps place e)))
-      (λ e. rw e))
-
   -- ---- check by check
 
   not-found : (found : Found) → isFound found ≡ false → found ≡ Nothing
@@ -90,14 +78,14 @@ module _ (d : Desk) (o : DeskInOrder d) where
     agree-output : (connection : ℕ) → isConnection (connectionsOf d) connection ≡ true → Matches v t (connection-goes d connection outward) (no-output (viewOf d) connection)
     agree-output connection used =
         plain _ 4 _ refl refl
-        (λ e. ⊎-elim (λ reads. ap outputTo (input-view d connection (used-reads d connection used reads))) (λ writes. absurd (true-not-false writes e)) (other-way connection used))
+        (λ e. ⊎-elim (λ reads. ap outputTo (input-view d connection (used-reads (connectionsOf d) connection used reads))) (λ writes. absurd (true-not-false writes e)) (other-way connection used))
         (λ e case. Option·none-ne-some _ (sym case ∙ ap outputTo (writes-view d connection used e)))
 
     pub agree-input : (connection : ℕ) → isConnection (connectionsOf d) connection ≡ true → Matches v t (connection-goes d connection inward) (no-input (viewOf d) connection)
     agree-input connection used =
         plain _ 4 _ refl refl
         (λ e. ⊎-elim (λ reads. absurd (true-not-false reads e)) (λ writes. ap inputFrom (writes-view d connection used writes)) (other-way connection used))
-        (λ e case. Option·none-ne-some _ (sym case ∙ ap inputFrom (input-view d connection (used-reads d connection used e))))
+        (λ e case. Option·none-ne-some _ (sym case ∙ ap inputFrom (input-view d connection (used-reads (connectionsOf d) connection used e))))
 
     pub agree-timestamp : (timestamp : ℕ) → Matches v t (timestamp-given timestamp) (no-timestamp timestamp)
     agree-timestamp timestamp = plain _ 5 _ refl refl (ltb-false timestamp never) (λ e past. omega (arith, ltb-true timestamp never e))
@@ -121,10 +109,10 @@ module _ (d : Desk) (o : DeskInOrder d) where
         let writes = ap outputTo (writes-view d connection used goes) in
         let place : ℕ = placeOf (itemsOf d) channel timestamp in
         plain _ 7 _ refl refl
-        (λ e. (channel, _, writes, item-view d o (holds-of d o place channel timestamp (place-found (itemsOf d) channel timestamp (leb-false 64 place e)))))
+        (λ e. (channel, _, writes, item-view d o (found-holds (itemsOf d) channel timestamp (leb-false itemPlaces place e))))
         (λ e (to, ticket, into, there).
         let same : channel ≡ to = Option·some-injective channel to (sym writes ∙ into) in
-        Option·none-ne-some ticket (sym (no-item-view d o channel timestamp (leb-true 64 place e)) ∙ rw same there))
+        Option·none-ne-some ticket (sym (no-item-view d channel timestamp (leb-true itemPlaces place e)) ∙ rw same there))
 
     agree-fits : Matches v t (item-fits d) (desk-full (viewOf d))
     unfolding count
@@ -132,9 +120,9 @@ module _ (d : Desk) (o : DeskInOrder d) where
         plain _ 8 _ refl refl
         (λ e. let many : 64 ≤ count (d .present) = ltb-false (count (d .present)) 64 e in
         let most : count (d .present) ≤ 64 = count-le (has (d .present)) 64 in
-        (below d o never .items, listed d o never, omega (arith, below d o never .counts, counted)))
+        (below d o never .items, listed d o never, omega (arith, below d o never .counts, below-never (o .items))))
         (λ e (items, those, full). let same : length items ≡ length (below d o never .items) = ap length (listed-one those (listed d o never)) in
-        omega (arith, below d o never .counts, counted, ltb-true (count (d .present)) 64 e))
+        omega (arith, below d o never .counts, below-never (o .items), ltb-true (count (d .present)) 64 e))
 
     agree-found : (connection : ℕ) (which : Which) → isInput (connectionsOf d) connection ≡ true
         → Matches v t (item-found d connection which) (nothing-unseen (viewOf d) connection which)
@@ -191,19 +179,19 @@ module _ (d : Desk) (o : DeskInOrder d) where
   agree (by thread (Set when)) = check (agree-thread thread) (λ lives. check (agree-visible thread when lives) (λ _. tt))
   agree (by thread (Put connection timestamp ticket)) =
       check (agree-thread thread) (λ lives. check (agree-owned thread connection) (λ owned.
-      let used = owned-used d connection thread owned in
+      let used = owned-used (connectionsOf d) connection thread owned in
       check (agree-output connection used) (λ goes. check (agree-timestamp timestamp) (λ _. check (agree-visible thread timestamp lives) (λ _.
       check (agree-absent connection timestamp used goes) (λ _. check agree-fits (λ _. tt)))))))
   agree (by thread (Get connection which)) =
       check (agree-thread thread) (λ _. check (agree-owned thread connection) (λ owned.
-      let used = owned-used d connection thread owned in
-      check (agree-input connection used) (λ goes. check (agree-which which) (λ _. check (agree-found connection which (used-reads d connection used goes)) (λ _. tt)))))
+      let used = owned-used (connectionsOf d) connection thread owned in
+      check (agree-input connection used) (λ goes. check (agree-which which) (λ _. check (agree-found connection which (used-reads (connectionsOf d) connection used goes)) (λ _. tt)))))
   agree (by thread (Consume connection timestamp)) =
       check (agree-thread thread) (λ _. check (agree-owned thread connection) (λ owned.
-      let used = owned-used d connection thread owned in
-      check (agree-input connection used) (λ goes. check (agree-timestamp timestamp) (λ _. check (agree-open connection timestamp (used-reads d connection used goes)) (λ _. tt)))))
+      let used = owned-used (connectionsOf d) connection thread owned in
+      check (agree-input connection used) (λ goes. check (agree-timestamp timestamp) (λ _. check (agree-open connection timestamp (used-reads (connectionsOf d) connection used goes)) (λ _. tt)))))
   agree (by thread (ConsumeUntil connection timestamp)) =
       check (agree-thread thread) (λ _. check (agree-owned thread connection) (λ owned.
-      check (agree-input connection (owned-used d connection thread owned)) (λ _. check (agree-timestamp timestamp) (λ _. tt))))
+      check (agree-input connection (owned-used (connectionsOf d) connection thread owned)) (λ _. check (agree-timestamp timestamp) (λ _. tt))))
   agree (sweep Weak slice) = check (agree-slice _ (weakBound d) _ slice (weak d o) (λ b is. smallest-one is (weak d o))) (λ _. tt)
   agree (sweep Strong slice) = check (agree-slice _ (strongBound d) _ slice (strong d o) (λ b is. smallest-one is (strong d o))) (λ _. tt)

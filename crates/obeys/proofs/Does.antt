@@ -1,27 +1,25 @@
--- Each accepted call does what the view says, and so does each call. Assumes nothing.
-use Rattle.obeys.proofs.Basis.{_∙_, _≡_, ap, refl, sym, false, true, some, List, [], _∷_, _<_, suc, ℕ, arith, eqb, leb, ltb, length, eqb-true, leb-true, ltb-true, count, with-same, without-same, Call, Passable, by, sliceOf}
-use Rattle.obeys.proofs.Basis.{sweep, isOpen, isPending, AttachInput, AttachOutput, Channel, Consume, ConsumeUntil, Detach, End, Get, NewThread, Put, Set, Consumed, Open, Which, refusal, ticketOf, inward, stateOf, Row}
-use Rattle.obeys.proofs.Basis.{Found, At, Nothing, Item, Pass, and-left, and-right, bool-cases, true-not-false, isUnseenAt, lies, placeOf, state, stateAt, connectionAt, isConnection, itemAt, owns, handedBack, itemsBelow}
-use Rattle.obeys.proofs.Basis.{adopted, attachedAs, boundOf, checks, effect, freeChannel, freeConnection, freeThread, isFound, becomesOpen, slice-long, sliceAfter, soughtBy, time, timestampOf, value, connectionsOf, itemsOf}
-use Rattle.obeys.proofs.Basis.{visibleTime, Desk, fewer-free, owned-below, used-inside, BoundOf, Connection, View, consumedBelow, done, inputFrom, outputTo, rule, seenAs, sweepRow, unused, DeskDoes, DeskInOrder, connectionOf}
-use Rattle.obeys.proofs.Basis.{viewOf}
+-- Each accepted call does what the view says, by the law of its effect, and so does each call, by the agreement of its checks. Assumes nothing.
+use Rattle.obeys.proofs.Basis.{_∙_, _≡_, ap, refl, sym, false, true, some, List, [], _∷_, _<_, suc, ℕ, arith, eqb, leb, ltb, length, eqb-true, leb-true, ltb-true, count, Call, Passable, by, sliceOf, sweep, isOpen}
+use Rattle.obeys.proofs.Basis.{isPending, AttachInput, AttachOutput, Channel, Consume, ConsumeUntil, Detach, End, Get, NewThread, Put, Set, Consumed, Open, Which, refusal, ticketOf, inward, never, stateOf, Row, Found, At}
+use Rattle.obeys.proofs.Basis.{Nothing, Item, isUnseenAt, lies, placeOf, state, stateAt, owns, connectionAt, isConnection, itemAt, handedBack, itemsBelow, adopted, attachedAs, checks, effect, sliceAfter, swept, time}
+use Rattle.obeys.proofs.Basis.{value, boundOf, freeChannel, freeConnection, freeThread, isFound, becomesOpen, slice-long, soughtBy, timestampOf, connectionsOf, itemsOf, visibleTime, Desk, BoundOf, Connection, View, at}
+use Rattle.obeys.proofs.Basis.{consumedBelow, done, inputFrom, outputTo, rule, seenAs, sweepRow, unused, DeskDoes, DeskInOrder, viewOf, connectionOf, is-open, is-unseen, true-not-false, and-left, and-right, bool-cases}
+use Rattle.obeys.proofs.Basis.{with-same, without-same, fewer-free, same-elsewhere, with-elsewhere, without-elsewhere, Pass, unconsumed, in-use-has, used-inside, owned-used, used-reads, sought-found, Holds, found-holds}
+use Rattle.obeys.proofs.Basis.{lies-there, owned-below}
 use native.Mathlib.Numerals.{add-one}
 use Rattle.rules.specs.Rules.{withConnection}
 use Rattle.desk.specs.Calls as Calls
-use Rattle.obeys.proofs.Order.{in-order-effect, every-desk-in-order}
+use Rattle.obeys.proofs.Agreed.{agree, channels-free, connections-free, lowest-free, threads-free}
+use Rattle.obeys.proofs.Bounds.{bound-is, visible}
+use Rattle.obeys.proofs.Effects.{view-channel, view-connection, view-ended, view-thread}
+use Rattle.obeys.proofs.Found.{takes}
 use Rattle.obeys.proofs.Frame.{does}
-use Rattle.obeys.proofs.Lookup.{used-view, input-view, Holds, item-view, holds-of, owned-used, used-reads, writes-view}
-use Rattle.obeys.proofs.Bounds.{visible, bound-is}
-use Rattle.obeys.proofs.Rows.{row-got, row-consumed, row-raised, row-connected}
+use Rattle.obeys.proofs.Listed.{below, listed}
+use Rattle.obeys.proofs.Lookup.{input-view, item-view, used-view, writes-view}
+use Rattle.obeys.proofs.Order.{every-desk-in-order}
+use Rattle.obeys.proofs.Rows.{row-connected, row-consumed, row-got, row-raised}
 use Rattle.obeys.proofs.Stock.{view-stored}
 use Rattle.obeys.proofs.Sweep.{view-swept}
-use Rattle.obeys.proofs.Found.{takes}
-use Rattle.obeys.proofs.Seen.{is-open, is-unseen, waits, lies-there}
-use Rattle.obeys.proofs.Chosen.{sought-found, place-found}
-use Rattle.obeys.proofs.Listed.{below, listed}
-use Rattle.obeys.proofs.Agreed.{agree, threads-free, channels-free, connections-free, lowest-free}
-use Rattle.obeys.proofs.Effects.{view-channel, view-thread, view-connection, view-ended}
-use Rattle.obeys.proofs.Words.{same-elsewhere, with-elsewhere, without-elsewhere, in-use-has}
 
 -- the same answer, and the view that it says
 quietly : {n m : ℕ} {slice : List ℕ} {v w : View} → v ≡ w → done n m v slice ≡ done n m w slice
@@ -51,19 +49,19 @@ module _ (d : Desk) (o : DeskInOrder d) where
   unfolding isUnseenAt
   got-accepts thread connection which owned goes (At place item) e found =
       let row : Row = connectionAt (connectionsOf d) connection in
-      let reads = used-reads d connection (owned-used d connection thread owned) goes in
+      let reads = used-reads (connectionsOf d) connection (owned-used (connectionsOf d) connection thread owned) goes in
       let s = sought-found (itemsOf d) row which place item e in
       let stamp : itemAt (itemsOf d) place .timestamp ≡ item .timestamp = sym (ap (λ (i : Item). i .timestamp) (s .is)) in
       let (there, beside) = lies-there (itemsOf d) row place (and-left _ _ (s .unseen)) in
-      let h : Holds d o place (row .channel) (item .timestamp) = record { inside = s .inside; there = there; channel-is = beside; timestamp-is = stamp } in
-      let w = waits row _ place (ap isPending (is-unseen (stateAt (itemsOf d) row place) (and-right (lies (itemsOf d) row place) _ (s .unseen)))) in (
+      let h : Holds (itemsOf d) (row .channel) (item .timestamp) place = record { inside = s .inside; there = there; channel-is = beside; timestamp-is = stamp } in
+      let w = unconsumed row _ place (ap isPending (is-unseen (stateAt (itemsOf d) row place) (and-right (lies (itemsOf d) row place) _ (s .unseen)))) in (
         row .channel,
         item .timestamp,
         item .ticket,
         ap inputFrom (input-view d connection reads),
         takes d o connection reads which place item e,
         item-view d o h ∙ ap some (sym (ap (λ (i : Item). i .ticket) (s .is))),
-        quietly (by-row connection (owned-used d connection thread owned) _ (seenAs Open (item .timestamp))
+        quietly (by-row connection (owned-used (connectionsOf d) connection thread owned) _ (seenAs Open (item .timestamp))
             (row-got d o row h (eqb-true _ inward goes) (omega (arith, w .mark)) (w .kept))),
       )
   got-accepts thread connection which owned goes Nothing e found = absurd (true-not-false found refl)
@@ -76,20 +74,20 @@ module _ (d : Desk) (o : DeskInOrder d) where
   consumed-view thread connection timestamp owned goes opens =
       let row : Row = connectionAt (connectionsOf d) connection in
       let place : ℕ = placeOf (itemsOf d) (row .channel) timestamp in
-      let w = waits row timestamp place (ap isPending (is-open (stateOf row timestamp place) opens)) in
-      let h = holds-of d o place (row .channel) timestamp (place-found (itemsOf d) (row .channel) timestamp (w .inside)) in
-      by-row connection (owned-used d connection thread owned) _ (seenAs Consumed timestamp) (row-consumed d o row h (eqb-true _ inward goes) (w .mark))
+      let w = unconsumed row timestamp place (ap isPending (is-open (stateOf row timestamp place) opens)) in
+      let h = found-holds (itemsOf d) (row .channel) timestamp (w .inside) in
+      by-row connection (owned-used (connectionsOf d) connection thread owned) _ (seenAs Consumed timestamp) (row-consumed d o row h (eqb-true _ inward goes) (w .mark))
 
   -- ---- sweeps
 
-  sweeps : (Bound : ℕ → Type 0) (bound : ℕ) (slice : List ℕ) → Bound bound → DeskInOrder (Calls.swept d bound)
+  sweeps : (Bound : ℕ → Type 0) (bound : ℕ) (slice : List ℕ) → Bound bound
       → leb (count (itemsBelow (itemsOf d) bound)) (length slice) ≡ true
       → sweepRow (viewOf d) Bound slice .Accepts
       (done (count (itemsBelow (itemsOf d) bound)) bound (viewOf (Calls.swept d bound)) (handedBack (d .items) (itemsBelow (itemsOf d) bound) slice))
   unfolding handedBack
-  sweeps Bound bound slice is o′ long =
+  sweeps Bound bound slice is long =
       let those = below d o bound in
-      (bound, those .items, is, listed d o bound, rw (those .counts, those .hands, long, view-swept d o bound o′))
+      (bound, those .items, is, listed d o bound, rw (those .counts, those .hands, long, view-swept d o bound))
 
   accepts : (call : Call) → Passable call → Pass (checks d call)
       → rule (viewOf d) call .Accepts (done (value d call) (time d call) (viewOf (effect d call)) (sliceAfter d call))
@@ -116,16 +114,16 @@ module _ (d : Desk) (o : DeskInOrder d) where
   accepts (by thread (Put connection timestamp ticket)) fits p =
       let item : Item = record { channel = connectionAt (connectionsOf d) connection .channel; timestamp = timestamp; ticket = ticket } in (
         connectionAt (connectionsOf d) connection .channel,
-        ap outputTo (writes-view d connection (owned-used d connection thread (p .1 .0)) (p .1 .1 .0)),
-        quietly (view-stored d o item (in-order-effect d o (by thread (Put connection timestamp ticket)) fits p)
-            (fewer-free (d .present) (ltb-true (count (d .present)) 64 (p .1 .1 .1 .1 .1 .1 .0))) (leb-true 64 _ (p .1 .1 .1 .1 .1 .0))),
+        ap outputTo (writes-view d connection (owned-used (connectionsOf d) connection thread (p .1 .0)) (p .1 .1 .0)),
+        quietly (view-stored d o item (fewer-free (d .present) (ltb-true (count (d .present)) 64 (p .1 .1 .1 .1 .1 .1 .0)))
+            (ltb-true timestamp never (p .1 .1 .1 .0)) (leb-true 64 _ (p .1 .1 .1 .1 .1 .0))),
       )
   accepts (by thread (Get connection which)) fits p = got-accepts thread connection which (p .1 .0) (p .1 .1 .0) (soughtBy d connection which) refl (p .1 .1 .1 .1 .0)
   accepts (by thread (Consume connection timestamp)) fits p = quietly (consumed-view thread connection timestamp (p .1 .0) (p .1 .1 .0) (p .1 .1 .1 .1 .0))
   accepts (by thread (ConsumeUntil connection timestamp)) fits p =
-      quietly (by-row connection (owned-used d connection thread (p .1 .0)) _ (consumedBelow (suc timestamp))
+      quietly (by-row connection (owned-used (connectionsOf d) connection thread (p .1 .0)) _ (consumedBelow (suc timestamp))
       (rw (add-one timestamp) (row-raised (itemsOf d) (connectionAt (connectionsOf d) connection) (suc timestamp) (eqb-true _ inward (p .1 .1 .0)))))
-  accepts (sweep bound slice) fits p = sweeps (BoundOf (viewOf d) bound) (boundOf d bound) slice (bound-is d o bound) (in-order-effect d o (sweep bound slice) fits p) (p .0)
+  accepts (sweep bound slice) fits p = sweeps (BoundOf (viewOf d) bound) (boundOf d bound) slice (bound-is d o bound) (p .0)
 
   -- ---- a refused call leaves the slice
 

@@ -1,6 +1,6 @@
 -- A call does what its view says where its checks agree with the refusals of the view, and its effect with what is accepted. Assumes nothing.
-use Rattle.obeys.proofs.Basis.{_≡_, ap, refl, subst, sym, Bool, cond, false, true, inl, inr, List, [], _∷_, ℕ, eqb, eqb-true, Call, sliceOf, Check, answer, answered, needs, refusal, Codes, Pass, answered-none, bool-cases}
-use Rattle.obeys.proofs.Basis.{passed, true-not-false, checks, effect, outcome, sliceAfter, step, time, value, Desk, Does, NoneOf, Outcome, Refusal, Refuses, View, done, refuse, rule, outcomeOf, viewOf}
+use Rattle.obeys.proofs.Basis.{_≡_, ap, refl, subst, sym, Bool, cond, false, true, inl, inr, List, [], _∷_, ℕ, eqb, eqb-true, Call, sliceOf, answered, refusal, Check, answer, needs, checks, effect, outcome, sliceAfter}
+use Rattle.obeys.proofs.Basis.{step, time, value, Desk, Does, NoneOf, Outcome, Refusal, Refuses, View, done, refuse, rule, outcomeOf, viewOf, true-not-false, bool-cases, Pass, Codes, passed, answered-none, answered-code}
 use Rattle.rows.specs.declared.Answer.{Answer}
 use Rattle.desk.specs.declared.Next.{Next}
 use Rattle.obeys.proofs.Reached.{codes, step-accepted}
@@ -47,11 +47,6 @@ module _ (value time : ℕ) where
   none-of (c ∷ cs) [] agree pass = absurd agree
   none-of (c ∷ cs) (r ∷ rs) agree pass = (agree .0 .holds (pass .0), none-of cs rs (agree .1 (pass .0)) (pass .1))
 
-  answered-code : (code : ℕ) → answered code value time .code ≡ code
-  unfolding answered
-  answered-code code =
-      bool-cases (eqb code 0) (λ e. rw e) (λ e. rw e (bool-cases (eqb code 12) (λ q. rw q) (λ q. rw q)))
-
   abbrev Told : List Refusal → ℕ → Type 0
   Told rs code = Refuses rs code (answered code value time .value) (answered code value time .time)
 
@@ -74,7 +69,7 @@ module _ (value time : ℕ) where
   either-way cs rs codes agree accepted refused =
       bool-cases (eqb (refusal cs) 0)
       (λ e. let pass = passed cs codes (eqb-true (refusal cs) 0 e) in accepted pass (none-of cs rs agree pass))
-      (λ e. refused e (rw (answered-code (refusal cs)) (first-refusal cs rs agree e)))
+      (λ e. refused e (rw (answered-code (refusal cs) value time) (first-refusal cs rs agree e)))
 
 -- ---- a call
 

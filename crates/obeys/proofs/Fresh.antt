@@ -1,11 +1,7 @@
--- The view of a fresh desk: thread 0 at time 0, and nothing else. Assumes nothing.
-use Rattle.obeys.proofs.Basis.{_≡_, refl, and-false, false, none, ℕ, ℕ-discrete, arith, ltb, ne-eqb, has, has-from, has-none, lowest-none, isItem, placeOf, inUse, fresh, itemsOf, freshView, StartsFresh, viewOf}
+-- The view of a fresh desk: thread 0 at time 0, and nothing else, as the words of its tables have no other place. Assumes nothing.
+use Rattle.obeys.proofs.Basis.{_≡_, refl, and-false, false, none, ℕ, ℕ-discrete, arith, ltb, ne-eqb, has, isItem, placeOf, inUse, fresh, itemsOf, freshView, StartsFresh, viewOf, has-none, has-from, lowest-none, none-used}
 use Rattle.obeys.proofs.Frame.{view-ext}
 use Rattle.obeys.proofs.Lookup.{dead-view, unused-view}
-
-none-used : (n places : ℕ) → inUse 0 n places ≡ false
-unfolding inUse
-none-used n places = rw (has-none n) (and-false (ltb n places))
 
 one-used : (n : ℕ) → (n ≡ 0 → ⊥) → inUse 1 n 16 ≡ false
 unfolding inUse

@@ -1,82 +1,16 @@
--- The tickets that a sweep hands back are those of the present items below its bound, in line. Assumes nothing.
-use Rattle.obeys.proofs.Basis.{_∙_, _≡_, ap, refl, subst, sym, false, true, _↔_, inl, inr, ⊎-elim, List, [], _∷_, _<_, _≤_, suc, zero, ℕ, ℕ-discrete, le-refl, arith, eqb, ltb, getD, length, eq-eqb, eqb-false, eqb-true}
-use Rattle.obeys.proofs.Basis.{le-ltb, lt-ltb, ltb-false, ltb-true, ne-eqb, count, has, without, count-ext, count-none, count-without, has-none, has-wordOf, has-wordOf-in, without-other, before, noItem, Found, At, Nothing}
-use Rattle.obeys.proofs.Basis.{Item, and-both, and-left, and-right, bool-cases, Table, isPresent, itemAt, firstOf, ticketsInLine, isBelow, itemsBelow, itemsOf, Desk, Before, InLine, IsPresent, Listed, _∈_, tickets, DeskInOrder, viewOf}
+-- The tickets that a sweep hands back are those of the present items below its bound, in line: the first of them, and then those of the rest, which are
+-- one fewer. Assumes nothing.
+use Rattle.obeys.proofs.Basis.{_∙_, _≡_, ap, refl, subst, sym, true, _↔_, inl, inr, ⊎-elim, List, [], _∷_, _<_, suc, zero, ℕ, ℕ-discrete, arith, getD, length, count, has, without, noItem, Item, itemPlaces, ticketsInLine}
+use Rattle.obeys.proofs.Basis.{itemsBelow, itemsOf, Desk, Before, InLine, IsPresent, Listed, _∈_, tickets, DeskInOrder, viewOf, without-other, count-without, without-apart, without-was, before-total, first-of}
+use Rattle.obeys.proofs.Basis.{below-means, means-below}
 use Rattle.rules.specs.Rules as Rules
-use Rattle.obeys.proofs.Words.{without-apart, without-was}
 use Rattle.obeys.proofs.Lookup.{item-view, view-item}
-use Rattle.obeys.proofs.Chosen.{chosen-is}
 
 -- a row of the items as the rules speak of it
 abbrev entry : Item → Rules.Item
 entry row = record { channel = row .channel; timestamp = row .timestamp; ticket = row .ticket }
 
--- ---- "by channel number, then timestamp" is a strict order, total on items whose pairs differ
-
-before-means : (item other : Item) → before item other ≡ true → Before (entry item) (entry other)
-unfolding before
-before-means item other comes =
-    bool-cases (eqb (item .channel) (other .channel))
-    (λ e. inr (eqb-true (item .channel) (other .channel) e, ltb-true (item .timestamp) (other .timestamp) (rw e at comes)))
-    (λ e. inl (ltb-true (item .channel) (other .channel) (rw e at comes)))
-
-means-before : (item other : Item) → Before (entry item) (entry other) → before item other ≡ true
-unfolding before
-means-before item other (inl below) = rw (ne-eqb (item .channel) (other .channel) (λ e. omega arith)) (lt-ltb (item .channel) (other .channel) below)
-means-before item other (inr same) = rw (eq-eqb (item .channel) (other .channel) (same .0)) (lt-ltb (item .timestamp) (other .timestamp) (same .1))
-
-before-irreflexive : (item : Item) → before item item ≡ false
-unfolding before
-before-irreflexive item = rw (eq-eqb (item .channel) (item .channel) refl) (le-ltb (item .timestamp) (item .timestamp) (le-refl (item .timestamp)))
-
-before-transitive : (first second third : Item) → before first second ≡ true → before second third ≡ true → before first third ≡ true
-before-transitive first second third left right = means-before first third (go (before-means first second left) (before-means second third right))
-  where
-    go : Before (entry first) (entry second) → Before (entry second) (entry third) → Before (entry first) (entry third)
-    go (inl below) (inl next) = inl (omega arith)
-    go (inl below) (inr same) = inl (omega arith)
-    go (inr same) (inl below) = inl (omega arith)
-    go (inr same) (inr next) = inr (omega arith, omega arith)
-
-before-total : (item other : Item) → (item .channel ≡ other .channel → item .timestamp ≡ other .timestamp → ⊥) → before item other ≡ false → Before (entry other) (entry item)
-unfolding before
-before-total item other apart late =
-    bool-cases (eqb (item .channel) (other .channel))
-    (λ e. let same : item .channel ≡ other .channel = eqb-true (item .channel) (other .channel) e in
-    let differ : item .timestamp ≡ other .timestamp → ⊥ = apart same in
-    let later : other .timestamp ≤ item .timestamp = ltb-false (item .timestamp) (other .timestamp) (rw e at late) in
-    inr (sym same, omega arith))
-    (λ e. let differ : item .channel ≡ other .channel → ⊥ = eqb-false (item .channel) (other .channel) e in
-    let above : other .channel ≤ item .channel = ltb-false (item .channel) (other .channel) (rw e at late) in
-    inl (omega arith))
-
 -- ---- the items of some places, one after the other
-
--- where there are any, one is the first
-record First (rows : List Item) (places : ℕ) : Type 0 where
-  place : ℕ
-  inside : place < 64
-  held : has places place ≡ true
-  found : firstOf rows places ≡ At place (getD rows place noItem)
-  best : (other : ℕ) → other < 64 → has places other ≡ true → before (getD rows other noItem) (getD rows place noItem) ≡ false
-
-first-of : (rows : List Item) (places : ℕ) {n : ℕ} → count places ≡ suc n → First rows places
-unfolding firstOf count
-first-of rows places counted = go (firstOf rows places) refl
-  where
-    go : (found : Found) → firstOf rows places ≡ found → First rows places
-    go (At at item) e =
-        let (inside, held, same, best) = chosen-is rows before (has places) before-irreflexive before-transitive (At at item) e in
-        record {
-          place = at;
-          inside = inside;
-          held = held;
-          found = e ∙ ap (At at) same;
-          best = subst (λ (first : Item). (other : ℕ) → other < 64 → has places other ≡ true → before (getD rows other noItem) first ≡ false) same best;
-        }
-    go Nothing e =
-        let none = chosen-is rows before (has places) before-irreflexive before-transitive Nothing e in
-        absurd (omega (arith, count-ext (has places) (has 0) 64 (λ place inside. none place inside ∙ sym (has-none place)), count-none))
 
 -- the items of n places in line, with exactly their members and tickets
 pub record Line (rows : List Item) (n places : ℕ) : Type 0 where
@@ -84,7 +18,7 @@ pub record Line (rows : List Item) (n places : ℕ) : Type 0 where
   pub counts : length items ≡ n
   pub hands : tickets items ≡ ticketsInLine rows n places
   pub in-line : InLine items
-  pub exactly : (item : Rules.Item) → (item ∈ items) ↔ ((place : ℕ) × (place < 64) × (has places place ≡ true) × (entry (getD rows place noItem) ≡ item))
+  pub exactly : (item : Rules.Item) → (item ∈ items) ↔ ((place : ℕ) × (place < itemPlaces) × (has places place ≡ true) × (entry (getD rows place noItem) ≡ item))
 
 line : (rows : List Item) (n places : ℕ) → count places ≡ n
     → ((place other : ℕ) → has places place ≡ true → has places other ≡ true
@@ -129,37 +63,26 @@ line rows (suc n) places counted one-each =
 
 -- ---- the items below a bound
 
-pub items-below-at : (items : Table Item) (bound : ℕ) {place : ℕ} → place < 64 → has (itemsBelow items bound) place ≡ isBelow items bound place
-unfolding itemsBelow
-items-below-at items bound inside = has-wordOf-in (isBelow items bound) inside
-
 module _ (d : Desk) (o : DeskInOrder d) (bound : ℕ) where
   abbrev gone : ℕ
   gone = itemsBelow (itemsOf d) bound
 
-  gone-below : (place : ℕ) → has gone place ≡ true → (isPresent (itemsOf d) place ≡ true) × (itemAt (itemsOf d) place .timestamp < bound)
-  unfolding itemsBelow isBelow
-  gone-below place held =
-      let left = and-right (ltb place 64) _ (sym (has-wordOf (isBelow (itemsOf d) bound) 64 place) ∙ held) in
-      (and-left (isPresent (itemsOf d) place) _ left, ltb-true _ bound (and-right (isPresent (itemsOf d) place) _ left))
-
   pub below : Line (d .items) (count gone) gone
-  below = line (d .items) (count gone) gone refl (λ place other held also. o .one-item-a-pair place other (gone-below place held .0) (gone-below other also .0))
+  below = line (d .items) (count gone) gone refl (λ place other held also. o .items .one-item-a-pair place other (below-means (itemsOf d) bound place held .0) (below-means (itemsOf d) bound other also .0))
 
   pub listed : Listed (viewOf d) bound (below .items)
-  unfolding isBelow
   listed = record {
     in-line = below .in-line;
     exactly = λ item. (
       λ in-it. (let (place, inside, held, is) = below .exactly item .0 in-it in
-          let (there, early) = gone-below place held in
+          let (there, early) = below-means (itemsOf d) bound place held in
           subst (λ (l : Rules.Item). IsPresent (viewOf d) l × (l .timestamp < bound)) is
-          (item-view d o {place = place} (record { inside = inside; there = there; channel-is = refl; timestamp-is = refl }), early)),
-      λ (seen, early). (let (place, h, ticket) = view-item d o (item .channel) (item .timestamp) (item .ticket) seen in
+          (item-view d o (record { inside = inside; there = there; channel-is = refl; timestamp-is = refl }), early)),
+      λ (seen, early). (let (place, h, ticket) = view-item d (item .channel) (item .timestamp) (item .ticket) seen in
           below .exactly item .1 (
             place,
             h .inside,
-            items-below-at (itemsOf d) bound (h .inside) ∙ and-both (h .there) (lt-ltb _ bound (omega (arith, h .timestamp-is))),
+            means-below (itemsOf d) bound (h .inside) (h .there) (omega (arith, h .timestamp-is)),
             λ i. record { channel = h .channel-is i; timestamp = h .timestamp-is i; ticket = ticket i },
           )),
     );

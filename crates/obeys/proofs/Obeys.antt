@@ -1,6 +1,6 @@
 -- The desk's replies are those of the rules, and what holds of every run under the rules holds of the desk. Assumes nothing.
-use Rattle.obeys.proofs.Basis.{subst, List, [], _∷_, AllPassable, Call, sweep, PassableRequests, Request, ask, items-present, make, Bound, Strong, Weak, never, ℕ, boundOf, after, step, fresh, Desk, View, freshView, DeskAccountsBalance, DeskBounds}
-use Rattle.obeys.proofs.Basis.{DeskBoundsNeverFall, DeskGives, DeskGivesNoOther, DeskSweepsExactly, ReachedReachable, Reached, deskAfter, outcomeOf, repliesOf, viewOf}
+use Rattle.obeys.proofs.Basis.{subst, List, [], _∷_, ℕ, AllPassable, Call, sweep, PassableRequests, Request, ask, items-present, make, Bound, Strong, Weak, never, after, step, time, value, boundOf, fresh, Desk, View}
+use Rattle.obeys.proofs.Basis.{freshView, DeskAccountsBalance, DeskBounds, DeskBoundsNeverFall, DeskGives, DeskGivesNoOther, DeskSweepsExactly, ReachedReachable, Reached, deskAfter, outcomeOf, repliesOf, viewOf}
 use Rattle.calls.specs.Calls.{put}
 use Rattle.rules.specs.Rules.{Item}
 use Rattle.rules.specs.Runs.{Run, stop, next, Gives}
@@ -14,13 +14,13 @@ use Rattle.rules.proofs.Deserted.{never-without-threads, refused-without-thread
 use Rattle.rules.proofs.Seen.{seen-moves-forward}
 use Rattle.rules.proofs.Twice.{no-pair-twice}
 use Rattle.obeys.specs.Claims.{DeskHandsBack, PutAccepted, DeskSweepsOnly, DeskNeverWithoutThreads, DeskRefusedWithoutThreads, DeskMovesForward, DeskNoPairTwice}
-use Rattle.obeys.proofs.Lookup.{dead-view}
-use Rattle.obeys.proofs.Reached.{reached-step, reached-after, fresh-reached}
-use Rattle.obeys.proofs.Order.{every-desk-in-order}
 use Rattle.obeys.proofs.Bounds.{bound-is}
 use Rattle.obeys.proofs.Does.{desk-does}
-use Rattle.obeys.proofs.Said.{desk-says}
 use Rattle.obeys.proofs.Fresh.{starts-fresh}
+use Rattle.obeys.proofs.Lookup.{dead-view}
+use Rattle.obeys.proofs.Order.{every-desk-in-order}
+use Rattle.obeys.proofs.Reached.{fresh-reached, reached-after, reached-step}
+use Rattle.obeys.proofs.Said.{desk-says}
 
 -- ---- replies
 

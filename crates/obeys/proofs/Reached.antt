@@ -1,6 +1,6 @@
 -- A step by its checks; a call leads from a reached desk to a reached desk, so a law of every reached desk needs one law of a step. Assumes nothing.
 use Rattle.obeys.proofs.Basis.{_∙_, _≡_, ap, refl, subst, List, [], _++_, _∷_, eqb, eqb-true, AllPassable, Call, Passable, by, sweep, AttachInput, AttachOutput, Channel, Consume, ConsumeUntil, Detach, End, Get, NewThread}
-use Rattle.obeys.proofs.Basis.{Put, Set, answer, answered, refusal, Codes, Pass, bool-cases, pass-refusal, passed, after, checks, effect, outcome, step, time, value, fresh, Desk, Reached}
+use Rattle.obeys.proofs.Basis.{Put, Set, answered, refusal, answer, after, checks, effect, outcome, step, time, value, fresh, Desk, Reached, passable-more, bool-cases, Pass, Codes, passed, pass-refusal}
 
 -- ---- a step
 
@@ -50,10 +50,6 @@ after-more : (d : Desk) (calls more : List Call) → after d (calls ++ more) ≡
 unfolding after
 after-more d [] more = refl
 after-more d (call ∷ calls) more = after-more (step d call .desk) calls more
-
-passable-more : (calls more : List Call) → AllPassable calls → AllPassable more → AllPassable (calls ++ more)
-passable-more [] more all all-more = all-more
-passable-more (call ∷ calls) more all all-more = (all .0, passable-more calls more (all .1) all-more)
 
 pub fresh-reached : Reached fresh
 unfolding after

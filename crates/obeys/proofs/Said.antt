@@ -1,13 +1,13 @@
--- The desk answers each question as its view says. Assumes nothing.
-use Rattle.obeys.proofs.Basis.{_∙_, ap, refl, sym, inl, inr, Question, items-present, state-of, strong-bound, visible-time, weak-bound, stateNumber, never, Codes, Pass, answered-zero, pass-refusal, Desk, Connection, Says}
-use Rattle.obeys.proofs.Basis.{askedOf, stateOn, DeskSays, DeskInOrder, viewOf}
+-- The desk answers each question as its view says: its checks agree with the refusals, and its answer is read off the view. Assumes nothing.
+use Rattle.obeys.proofs.Basis.{_∙_, ap, refl, sym, inl, inr, Question, items-present, state-of, strong-bound, visible-time, weak-bound, stateNumber, never, connectionsOf, Desk, Connection, Says, askedOf, stateOn}
+use Rattle.obeys.proofs.Basis.{DeskSays, DeskInOrder, viewOf, Pass, Codes, pass-refusal, answered-zero, used-reads, below-never}
 use Rattle.desk.specs.Questions.{questionChecks, replyValue, replyTime, reply}
-use Rattle.obeys.proofs.Order.{every-desk-in-order}
-use Rattle.obeys.proofs.Lookup.{unused-view, input-view, used-not-free, used-reads}
-use Rattle.obeys.proofs.Bounds.{visible, weak, strong}
+use Rattle.obeys.proofs.Agreed.{agree-input, agree-thread, agree-timestamp}
+use Rattle.obeys.proofs.Bounds.{strong, visible, weak}
+use Rattle.obeys.proofs.Frame.{Agree, check, either-way, plain}
 use Rattle.obeys.proofs.Listed.{below, listed}
-use Rattle.obeys.proofs.Agreed.{agree-thread, agree-timestamp, agree-input, counted}
-use Rattle.obeys.proofs.Frame.{Agree, plain, check, either-way}
+use Rattle.obeys.proofs.Lookup.{input-view, unused-view, used-not-free}
+use Rattle.obeys.proofs.Order.{every-desk-in-order}
 
 question-codes : (d : Desk) (q : Question) → Codes (questionChecks d q)
 unfolding questionChecks
@@ -34,8 +34,8 @@ module _ (d : Desk) (o : DeskInOrder d) where
   question-answers weak-bound p = (refl, weak d o)
   question-answers strong-bound p = (refl, strong d o)
   question-answers (state-of connection timestamp) p =
-      (ap (λ (c : Connection). stateNumber (stateOn c timestamp)) (sym (input-view d connection (used-reads d connection (p .0) (p .1 .0)))), refl)
-  question-answers items-present p = (below d o never .items, listed d o never, sym (below d o never .counts ∙ counted d o), refl)
+      (ap (λ (c : Connection). stateNumber (stateOn c timestamp)) (sym (input-view d connection (used-reads (connectionsOf d) connection (p .0) (p .1 .0)))), refl)
+  question-answers items-present p = (below d o never .items, listed d o never, sym (below d o never .counts ∙ below-never (o .items)), refl)
 
   says : (q : Question) → Says (viewOf d) q (reply d q .code) (reply d q .value) (reply d q .time)
   unfolding reply

@@ -1,17 +1,14 @@
--- The view after a sweep: no item below its bound is left, and below it all is CONSUMED. Assumes nothing.
-use Rattle.obeys.proofs.Basis.{_∙_, _≡_, ap, refl, sym, Bool, _&&_, and-true, cond, false, true, none, _<_, _≤_, ℕ, arith, eqb, leb, ltb, eqb-true, le-ltb, leb-false, lt-ltb, ltb-false, ltb-true, has, except, except-at, Absent}
-use Rattle.obeys.proofs.Basis.{Consumed, cleared, raised, inward, noConnection, byName, stateOf, Row, and-both, bool-cases, true-not-false, placeOf, state, connectionAt, isConnection, isInput, itemAt, isBelow, itemsBelow}
-use Rattle.obeys.proofs.Basis.{sweptConnection, sweptConnections, sweptItems, getD-rowsOf, swept, connectionsOf, itemsOf, Desk, used-inside, Connection, consumedBelow, DeskInOrder, connectionOf, itemOf, viewOf}
+-- The view after a sweep: no item below its bound is left, and below it all is CONSUMED; at or above it a pair keeps its place, and so its state. Assumes
+-- nothing.
+use Rattle.obeys.proofs.Basis.{_∙_, _≡_, ap, refl, sym, Bool, cond, false, true, none, _<_, _≤_, ℕ, eqb, ltb, eqb-true, ltb-false, ltb-true, Consumed, cleared, raised, inward, noConnection, Row, placeOf, state, isInput}
+use Rattle.obeys.proofs.Basis.{connectionAt, isConnection, itemPlaces, itemsBelow, sweptConnections, sweptConnection, swept, connectionsOf, itemsOf, Desk, Connection, consumedBelow, DeskInOrder, viewOf, connectionOf}
+use Rattle.obeys.proofs.Basis.{itemOf, bool-cases, cleared-kept, raised-as, used-inside, reads-as, found-holds, getD-rowsOf, left-item, holds-still, above-stays, found-stays, place-left, none-left}
 use Rattle.rules.specs.Rules as Rules
-use Rattle.obeys.proofs.Chosen.{place-found}
 use Rattle.obeys.proofs.Frame.{view-ext}
-use Rattle.obeys.proofs.Lookup.{used-view, unused-view, input-row, output-row, Holds, holds-of, same-place}
-use Rattle.obeys.proofs.Rows.{input-seen, ltb-max}
-use Rattle.obeys.proofs.Listed.{items-below-at}
-use Rattle.obeys.proofs.Order.Tables.{thinned-row}
-use Rattle.obeys.proofs.Words.{except-was, except-kept, except-stays}
+use Rattle.obeys.proofs.Lookup.{input-row, output-row, unused-view, used-view}
+use Rattle.obeys.proofs.Rows.{input-seen}
 
-module _ (d : Desk) (o : DeskInOrder d) (bound : ℕ) (o′ : DeskInOrder (swept d bound)) where
+module _ (d : Desk) (o : DeskInOrder d) (bound : ℕ) where
   abbrev e : Desk
   e = swept d bound
 
@@ -20,48 +17,16 @@ module _ (d : Desk) (o : DeskInOrder d) (bound : ℕ) (o′ : DeskInOrder (swept
 
   -- ---- the items
 
-  -- an item that is left is as it was
-  left-item : (p : ℕ) → has (except (d .present) gone) p ≡ true → itemAt (itemsOf e) p ≡ itemAt (itemsOf d) p
-  unfolding swept sweptItems
-  left-item p held = thinned-row (o .items) (omega arith) gone p held
-
-  module _ {p channel timestamp : ℕ} where
-    -- what holds a pair at or above the bound does not leave
-    stays : bound ≤ timestamp → Holds d o p channel timestamp → has gone p ≡ false
-    unfolding isBelow
-    stays above h =
-        items-below-at (itemsOf d) bound (h .inside) ∙ rw (h .there) (le-ltb (itemAt (itemsOf d) p .timestamp) bound (omega (arith, h .timestamp-is)))
-
-    holds-still : bound ≤ timestamp → Holds d o p channel timestamp → Holds e o′ p channel timestamp
-    unfolding swept
-    holds-still above h =
-        let held = except-stays (d .present) gone p (h .inside) (h .there) (stays above h) in
-        record { inside = h .inside; there = held; channel-is = rw (left-item p held) (h .channel-is); timestamp-is = rw (left-item p held) (h .timestamp-is) }
-
-    held-before : Holds e o′ p channel timestamp → Holds d o p channel timestamp
-    unfolding swept
-    held-before h =
-        let same = left-item p (h .there) in
-        record { inside = h .inside; there = except-was (d .present) gone p (h .there); channel-is = rw same at (h .channel-is); timestamp-is = rw same at (h .timestamp-is) }
-
-    -- and what is left is at or above it
-    left-above : Holds e o′ p channel timestamp → timestamp < bound → ⊥
-    unfolding swept isBelow
-    left-above h below =
-        let was = held-before h in
-        true-not-false
-        (items-below-at (itemsOf d) bound (h .inside) ∙ and-both (was .there) (lt-ltb (itemAt (itemsOf d) p .timestamp) bound (omega (arith, was .timestamp-is))))
-        (except-kept (d .present) gone p (h .there))
-
   place-same : (channel timestamp : ℕ) → bound ≤ timestamp → placeOf (itemsOf e) channel timestamp ≡ placeOf (itemsOf d) channel timestamp
-  place-same channel timestamp above = same-place d o e o′ channel timestamp (λ p. holds-still above) (λ p. held-before)
+  unfolding swept
+  place-same = place-left (o .items) bound
 
   -- below the bound there is none
-  none-left : (channel timestamp : ℕ) → timestamp < bound → itemOf (itemsOf e) channel timestamp ≡ none
-  none-left channel timestamp below =
-      let p : ℕ = placeOf (itemsOf e) channel timestamp in
-      bool-cases (ltb p 64)
-      (λ q. absurd (left-above (holds-of e o′ p channel timestamp (place-found (itemsOf e) channel timestamp (ltb-true p 64 q))) below))
+  item-gone : (channel timestamp : ℕ) → timestamp < bound → itemOf (itemsOf e) channel timestamp ≡ none
+  unfolding swept
+  item-gone channel timestamp below =
+      bool-cases (ltb (placeOf (itemsOf e) channel timestamp) itemPlaces)
+      (λ q. absurd (none-left (o .items) bound channel timestamp below (ltb-true _ itemPlaces q)))
       (λ q. rw q)
 
   item-same : (channel timestamp : ℕ) → bound ≤ timestamp → itemOf (itemsOf e) channel timestamp ≡ itemOf (itemsOf d) channel timestamp
@@ -69,41 +34,26 @@ module _ (d : Desk) (o : DeskInOrder d) (bound : ℕ) (o′ : DeskInOrder (swept
   item-same channel timestamp above =
       let p : ℕ = placeOf (itemsOf d) channel timestamp in
       rw (place-same channel timestamp above)
-      (bool-cases (ltb p 64)
-      (λ q. let h = holds-of d o p channel timestamp (place-found (itemsOf d) channel timestamp (ltb-true p 64 q)) in
-      rw (q, left-item p (holds-still above h .there)))
+      (bool-cases (ltb p itemPlaces)
+      (λ q. let h = found-holds (itemsOf d) channel timestamp (ltb-true p itemPlaces q) in
+      rw (q, left-item (o .items) gone p (holds-still (o .items) gone (above-stays (o .items) bound channel timestamp above h) h .there)))
       (λ q. rw q))
 
   swept-items : (c n : ℕ) → viewOf e .item c n ≡ cond (ltb n bound) none (viewOf d .item c n)
   unfolding viewOf
   swept-items c n =
-      bool-cases (ltb n bound) (λ q. rw q (none-left c n (ltb-true n bound q))) (λ q. rw q (item-same c n (ltb-false n bound q)))
+      bool-cases (ltb n bound) (λ q. rw q (item-gone c n (ltb-true n bound q))) (λ q. rw q (item-same c n (ltb-false n bound q)))
 
   -- ---- the connections
 
-  -- at or above the bound a state stays, whatever the mark
-  rest-same : (row : Row) (n : ℕ) → bound ≤ n
-      → cond (leb 64 (placeOf (itemsOf e) (row .channel) n)) Absent
-      (byName (has (except (row .opened) gone) (placeOf (itemsOf e) (row .channel) n)) (has (except (row .consumed) gone) (placeOf (itemsOf e) (row .channel) n)))
-      ≡ cond (leb 64 (placeOf (itemsOf d) (row .channel) n)) Absent
-      (byName (has (row .opened) (placeOf (itemsOf d) (row .channel) n)) (has (row .consumed) (placeOf (itemsOf d) (row .channel) n)))
-  rest-same row n above =
-      rw (place-same (row .channel) n above)
-      (bool-cases (leb 64 (placeOf (itemsOf d) (row .channel) n))
-      (λ q. rw q)
-      (λ q. let p : ℕ = placeOf (itemsOf d) (row .channel) n in
-      let inside : p < 64 = leb-false 64 p q in
-      let h = holds-of d o p (row .channel) n (place-found (itemsOf d) (row .channel) n inside) in
-      let kept : has gone p ≡ false = stays above h in
-      rw (except-at (row .opened) gone inside, except-at (row .consumed) gone inside, kept, and-true (has (row .opened) p), and-true (has (row .consumed) p))))
-
   seen-swept : (row : Row) (n : ℕ) → state (itemsOf e) (raised (cleared row gone) bound) n ≡ cond (ltb n bound) Consumed (state (itemsOf d) row n)
-  unfolding state stateOf raised cleared
+  unfolding state raised cleared
   seen-swept row n =
-      ltb-max n (row .mark) bound Consumed _
+      raised-as (cleared row gone) n (placeOf (itemsOf e) (row .channel) n) bound
       ∙ bool-cases (ltb n bound)
       (λ q. rw q)
-      (λ q. rw q (ap (cond (ltb n (row .mark)) Consumed) (rest-same row n (ltb-false n bound q))))
+      (λ q. let above = ltb-false n bound q in
+      rw (q, place-same (row .channel) n above) (cleared-kept row n _ gone (found-stays (o .items) bound (row .channel) n above)))
 
   input-swept : (row : Row) → row .direction ≡ inward
       → connectionOf (itemsOf e) (raised (cleared row gone) bound) ≡ consumedBelow bound (connectionOf (itemsOf d) row)
@@ -119,10 +69,6 @@ module _ (d : Desk) (o : DeskInOrder d) (bound : ℕ) (o′ : DeskInOrder (swept
   output-swept row writes =
       output-row (itemsOf e) (cleared row gone) writes ∙ sym (ap (consumedBelow bound) (output-row (itemsOf d) row writes))
 
-  reads-as : (k : ℕ) → isConnection (connectionsOf d) k ≡ true → isInput (connectionsOf d) k ≡ eqb (connectionAt (connectionsOf d) k .direction) inward
-  unfolding isInput
-  reads-as k used = ap (λ (b : Bool). b && eqb (connectionAt (connectionsOf d) k .direction) inward) used
-
   -- a sweep raises marks, and clears the facts of items that leave
   swept-row : (k : ℕ) → isConnection (connectionsOf d) k ≡ true
       → connectionAt (connectionsOf e) k ≡ sweptConnection (isInput (connectionsOf d) k) bound gone (connectionAt (connectionsOf d) k)
@@ -137,8 +83,8 @@ module _ (d : Desk) (o : DeskInOrder d) (bound : ℕ) (o′ : DeskInOrder (swept
       let by : Bool → Connection = λ b. connectionOf (itemsOf e) (sweptConnection b bound gone row) in
       ap (connectionOf (itemsOf e)) (swept-row k used)
       ∙ bool-cases (eqb (row .direction) inward)
-      (λ q. ap by (reads-as k used ∙ q) ∙ input-swept row (eqb-true _ inward q))
-      (λ q. ap by (reads-as k used ∙ q) ∙ output-swept row q)
+      (λ q. ap by (reads-as (connectionsOf d) k used ∙ q) ∙ input-swept row (eqb-true _ inward q))
+      (λ q. ap by (reads-as (connectionsOf d) k used ∙ q) ∙ output-swept row q)
 
   swept-word : (k : ℕ) → isConnection (connectionsOf e) k ≡ isConnection (connectionsOf d) k
   unfolding swept

@@ -1,3 +1,6 @@
 -- The laws of one row, for the crates above.
 pub mod Laws
+pub mod Seen
+pub mod Changed
+pub mod Orders
 pub mod Examples
