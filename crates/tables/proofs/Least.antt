@@ -1,26 +1,27 @@
 -- The parts of visible time and of the two bounds, as loops over the places of a word. Assumes nothing.
-use mathlib.Core.Path.{_≡_, refl, sym, ap, _∙_}
-use mathlib.Core.Bool.{Bool, true, false, cond, not, _&&_, and-false}
-use Prim.Native.Nat.{ℕ, zero, suc, _≤_, _<_, min}
-use native.Mathlib.Nat.{min-eq-left, min-eq-right}
+use mathlib.Core.Bool.{Bool, _&&_, and-assoc, and-comm, and-false, cond, false, not, true}
+use mathlib.Core.Path.{_∙_, _≡_, ap, refl, sym}
+use Prim.Native.Nat.{_<_, _≤_, min, suc, zero, ℕ}
+use native.Mathlib.Nat.{min-eq-left}
 use native.Mathlib.Omega.{arith}
 use lib.Dec.{eqb, leb, ltb}
-use borrow.Author.Tests.{ltb-false}
-use Rattle.words.specs.Places.{foldTo, each}
-use Rattle.words.specs.Words.{has, without, both, except, lowest, count}
-use Rattle.words.proofs.Laws.{both-at, except-at, count-none}
-use Rattle.words.proofs.Walk.{each-turn, each-and, each-ext}
-use Rattle.rows.specs.declared.Thread.{Thread}
-use Rattle.rows.specs.declared.Connection.{Connection}
-use Rattle.rows.specs.declared.Item.{Item}
-use Rattle.rows.specs.Numbers.{never, input}
+use Rattle.words.specs.Places.{each, foldTo}
+use Rattle.words.specs.Words.{both, count, except, has, lowest, without}
+use Rattle.words.proofs.Laws.{both-at, count-none, except-at}
+use Rattle.words.proofs.Walk.{each-and, each-ext, each-same, each-turn, each-where}
+use Rattle.words.proofs.YesOrNo.{cond-same}
 use Rattle.calls.specs.States.{isPending}
+use Rattle.rows.specs.Numbers.{input, never}
 use Rattle.rows.specs.States.{lookedAt, stateOf}
 use Rattle.rows.specs.Times.{leastIf}
-use Rattle.rows.proofs.Laws.{and-assoc, and-comm, bool-cases, cond-same, open-is}
-use Rattle.tables.specs.Tables.{Table, threadAt, connectionAt, itemAt, isInput, readsFor}
-use Rattle.tables.specs.Seen.{lies, isOpenAt, isPendingAt}
-use Rattle.tables.specs.Times.{smallest, some, leastTime, openTime, leastOpen, leastKeep, isAwaited, leastAwaited}
+use Rattle.rows.specs.declared.Connection.{Connection}
+use Rattle.rows.specs.declared.Item.{Item}
+use Rattle.rows.specs.declared.Thread.{Thread}
+use Rattle.rows.proofs.Laws.{least-if-counts, least-if-time}
+use Rattle.rows.proofs.Seen.{open-is}
+use Rattle.tables.specs.Seen.{isOpenAt, isPendingAt, lies}
+use Rattle.tables.specs.Tables.{Table, connectionAt, isInput, itemAt, readsFor, threadAt}
+use Rattle.tables.specs.Times.{isAwaited, leastAwaited, leastKeep, leastOpen, leastTime, openTime, smallest, some}
 use Rattle.tables.proofs.Used.{used-below}
 
 -- ---- virtual times
@@ -56,38 +57,6 @@ smallest-from (suc n) counts time start fits = go (counts n) _ (smallest-from n 
     go false y e = e
 
 -- ---- a loop within a loop
-
--- the word of the inner loop is empty where the inner loop is not wanted
-each-where : {B : Type 0} (n : ℕ) (f : ℕ → B → B) (b : B) (w : ℕ) {wanted : Bool} {v : ℕ} {x : B}
-    → v ≡ cond wanted w 0
-    → x ≡ each n (has v) f b
-    → wanted ≡ true
-    → x ≡ each n (has w) f b
-each-where n f b w {wanted} {v} {x} word result holds =
-    result ∙ ap (λ (u : ℕ). each n (has u) f b) (word ∙ ap (λ (t : Bool). cond t w 0) holds)
-
--- a step whose test was made beforehand
-pub least-if-by : (time least : ℕ) {counts holds : Bool} {x : ℕ} → x ≡ leastIf counts time least → counts ≡ holds → x ≡ leastIf holds time least
-least-if-by time least step test = step ∙ ap (λ (t : Bool). leastIf t time least) test
-
--- what does not count is not looked at
-least-if-time : (counts : Bool) {x y : ℕ} (least : ℕ) → (counts ≡ true → x ≡ y) → leastIf counts x least ≡ leastIf counts y least
-unfolding leastIf
-least-if-time true least same = ap (λ (x : ℕ). min x least) (same refl)
-least-if-time false least same = refl
-
--- a time that is not below the least does not lower it
-least-if-counts : {a b : Bool} (time least : ℕ) → (ltb time least ≡ true → a ≡ b) → leastIf a time least ≡ leastIf b time least
-unfolding leastIf
-least-if-counts {a} {b} time least same =
-    bool-cases
-    (ltb time least)
-    (λ below. ap (λ (t : Bool). leastIf t time least) (same below))
-    (λ above. not-lower a above ∙ sym (not-lower b above))
-  where
-    not-lower : (t : Bool) → ltb time least ≡ false → leastIf t time least ≡ least
-    not-lower true above = min-eq-right (ltb-false time least above)
-    not-lower false above = refl
 
 -- ---- OPEN timestamps
 
@@ -195,13 +164,6 @@ pub least-awaited-is : (connections : Table Connection) (items : Table Item) (ti
 unfolding leastAwaited leastIf
 least-awaited-is connections items time fits =
     sym (smallest-from 64 _ _ time fits) ∙ each-and 64 _ time _ _ _ (λ p inside. is-awaited connections items p)
-
--- steps that change nothing
-each-same : {B : Type 0} (n : ℕ) (counts : ℕ → Bool) (f : ℕ → B → B) (x : B) → ((i : ℕ) → f i x ≡ x) → each n counts f x ≡ x
-unfolding each foldTo
-each-same zero counts f x same = refl
-each-same {B} (suc n) counts f x same =
-    rw (each-same n counts f x same) (ap (λ (y : B). cond (counts n) y x) (same n) ∙ cond-same (counts n) x)
 
 -- once some connection awaits the item, those left do not change that, so none of them is asked
 asked-on : (connections : Table Connection) (item : Item) (p : ℕ) (found : Bool) (v : ℕ) {left : ℕ}

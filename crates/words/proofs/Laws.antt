@@ -306,3 +306,9 @@ full-free w e = lowest-none (λ i. not (has w i)) 64 (λ i l. ap not (full-all (
 pub free-full : (w : ℕ) → lowestFree w ≡ 64 → count w ≡ 64
 unfolding count
 free-full w e = all-full (has w) 64 (λ i l. free-below w (omega arith))
+
+-- so a word with fewer places than all has a free one
+pub fewer-free : (w : ℕ) → count w < 64 → lowestFree w < 64
+unfolding lowestFree
+fewer-free w fewer =
+    ⊎-elim (λ full. absurd (omega (arith, free-full w full))) (λ below. below) (eq-or-lt-of-le (lowest-le (λ place. not (has w place)) 64))

@@ -14,7 +14,7 @@ use Rattle.rows.specs.declared.Item.{Item}
 use Rattle.rows.specs.Numbers.{noItem}
 use Rattle.tables.specs.Tables.{table}
 use Rattle.leaving.specs.Leaving.{isBelow, itemsBelow}
-use Rattle.tables.proofs.Used.{gathered, gathered-all}
+use Rattle.words.proofs.Gathered.{gathered, gathered-all}
 use Rattle.leaving.proofs.items_below.Statement.{statement}
 use Rattle.leaving.proofs.items_below.Tie as tie
 

@@ -14,7 +14,8 @@ use Rattle.rows.specs.declared.Connection.{Connection}
 use Rattle.rows.specs.Numbers.{noConnection}
 use Rattle.tables.specs.Tables.{table, owns}
 use Rattle.leaving.specs.Leaving.{ownedBy}
-use Rattle.tables.proofs.Used.{used-below, gathered, gathered-all}
+use Rattle.words.proofs.Gathered.{gathered, gathered-all}
+use Rattle.tables.proofs.Used.{used-below}
 use Rattle.leaving.proofs.owned_by.Statement.{statement}
 use Rattle.leaving.proofs.owned_by.Tie as tie
 

@@ -15,7 +15,7 @@ use Rattle.rows.specs.Numbers.{noItem}
 use Rattle.rows.proofs.Laws.{and-both}
 use Rattle.tables.specs.Tables.{table}
 use Rattle.tables.specs.Seen.{isItem, placeOf}
-use Rattle.tables.proofs.Lowest.{lowestIn, search-here, search-turn, search-done}
+use Rattle.words.proofs.Search.{lowestIn, search-here, search-turn, search-done}
 use Rattle.tables.proofs.search.place_of.Statement.{statement}
 use Rattle.tables.proofs.search.place_of.Tie as tie
 

@@ -19,7 +19,7 @@ use Rattle.calls.specs.declared.Which.{Which}
 use Rattle.rows.specs.Choices.{preferred, takenBefore}
 use Rattle.rows.specs.Numbers.{noItem}
 use Rattle.rows.specs.States.{lookedAt}
-use Rattle.rows.proofs.Laws.{unseen-is}
+use Rattle.rows.proofs.Seen.{unseen-is}
 use Rattle.tables.specs.Tables.{table}
 use Rattle.tables.specs.Seen.{lies, isUnseenAt}
 use Rattle.tables.specs.Search.{chosen, isWanted, sought}

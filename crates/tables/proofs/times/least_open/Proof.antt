@@ -5,8 +5,9 @@ use borrow.Author.Needs.{needs}
 use Rattle.words.specs.Places.{each}
 use Rattle.words.specs.Words.{has, lowest, count}
 use Rattle.words.proofs.Walk.{each-turn, each-done, each-falls}
+use Rattle.rows.proofs.Laws.{least-if-by}
 use Rattle.tables.specs.Tables.{table}
-use Rattle.tables.proofs.Least.{openStep, readStep, least-if-by, open-turn, least-open-is}
+use Rattle.tables.proofs.Least.{openStep, readStep, open-turn, least-open-is}
 use Rattle.tables.proofs.times.least_open.Statement.{statement}
 use Rattle.tables.proofs.times.least_open.Tie as tie
 

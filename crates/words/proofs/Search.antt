@@ -1,14 +1,15 @@
--- A search over the places of a word, lowest first, for one that passes a test. Assumes nothing.
-use mathlib.Core.Path.{_≡_, sym, ap, _∙_}
-use mathlib.Core.Bool.{Bool, false, true, _&&_, and-false}
+-- A search over the places of a word, lowest first, for one that passes a test: a place that failed can be left out of the word, and the first that
+-- passes is the lowest. Assumes nothing.
+use mathlib.Core.Bool.{Bool, _&&_, and-false, false, true}
 use mathlib.Core.Logic.{_≢_}
-use Prim.Native.Nat.{ℕ, _≤_, _<_}
+use mathlib.Core.Path.{_∙_, _≡_, ap, sym}
+use Prim.Native.Nat.{_<_, _≤_, ℕ}
 use native.Mathlib.Decide.{ℕ-discrete}
 use native.Mathlib.Omega.{arith}
 use Rattle.words.specs.Places.{lowestOf}
 use Rattle.words.specs.Words.{has, lowest, without}
-use Rattle.words.proofs.Laws.{lowest-ext, lowest-unique, lowest-none, lowest-has, lowest-below, without-other}
-use Rattle.rows.proofs.Laws.{and-both}
+use Rattle.words.proofs.Laws.{lowest-below, lowest-ext, lowest-has, lowest-none, lowest-unique, without-other}
+use Rattle.words.proofs.YesOrNo.{and-both}
 
 -- the lowest place of the word that passes the test; 64 where none does
 abbrev pub lowestIn : ℕ → (ℕ → Bool) → ℕ
