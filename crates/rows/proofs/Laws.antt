@@ -56,14 +56,6 @@ answered-code code value time =
 
 -- ---- times
 
-pub least-if-true : {counts : Bool} → counts ≡ true → (time least : ℕ) → leastIf counts time least ≡ min time least
-unfolding leastIf
-least-if-true counted time least = rw counted
-
-pub least-if-false : {counts : Bool} → counts ≡ false → (time least : ℕ) → leastIf counts time least ≡ least
-unfolding leastIf
-least-if-false passed-over time least = rw passed-over
-
 -- a step whose test was made beforehand
 pub least-if-by : (time least : ℕ) {counts holds : Bool} {x : ℕ} → x ≡ leastIf counts time least → counts ≡ holds → x ≡ leastIf holds time least
 least-if-by time least step test = step ∙ ap (λ (t : Bool). leastIf t time least) test

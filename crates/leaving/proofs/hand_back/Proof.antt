@@ -7,6 +7,7 @@ use borrow.Author.Needs.{needs}
 use Rattle.words.specs.Places.{each}
 use Rattle.words.specs.Words.{has, lowest, count}
 use Rattle.words.proofs.Walk.{each-turn, each-done, each-falls}
+use Rattle.tables.specs.Tables.{itemPlaces}
 use Rattle.leaving.specs.Leaving.{firstOf}
 use Rattle.tables.specs.Search.{chosen}
 use Rattle.leaving.proofs.Left.{firstStep, handed, handed-turn, handed-done, handed-back, handed-short}
@@ -15,7 +16,7 @@ use Rattle.leaving.proofs.hand_back.Tie as tie
 
 abbrev Inv-loop2 : tie.InvT-loop2
 Inv-loop2 gone slice items n places i found₀ rest₀ p₀ found rest p =
-    (p ≡ lowest rest) × (each 64 (has rest) (firstStep items) found ≡ each 64 (has rest₀) (firstStep items) found₀)
+    (p ≡ lowest rest) × (each itemPlaces (has rest) (firstStep items) found ≡ each itemPlaces (has rest₀) (firstStep items) found₀)
 
 abbrev μ-loop2 : tie.MeasureT-loop2
 μ-loop2 gone slice items n places i found₀ rest₀ p₀ found rest p = count rest
@@ -72,7 +73,7 @@ loop2-again : tie.Need-loop2-again Inv-loop2 μ-loop2 Inv-loop μ-loop
 loop2-again c =
     let turn = c .before .before .before .before in
     let here = turn .before .loop2 in
-    (c .lowest2 .ensures, each-turn 64 _ (here .rest) (here .found) (omega arith) (turn .loop2-test .taken) (here .inv .0) (c .before .before .or-before .ensures) (c .before .without .ensures) (here .inv .1))
+    (c .lowest2 .ensures, each-turn itemPlaces _ (here .rest) (here .found) (omega arith) (turn .loop2-test .taken) (here .inv .0) (c .before .before .or-before .ensures) (c .before .without .ensures) (here .inv .1))
 
 ticket-requires : tie.Need-ticket-requires Inv-loop2 μ-loop2 Inv-loop μ-loop
 ticket-requires c κs = search needs
@@ -98,7 +99,7 @@ loop-again c =
     let turn = c .before .before .before .before .before in
     let here = turn .before .loop in
     let inner = c .before .before .before .loop2 in
-    let first = each-done 64 _ (inner .rest) (c .before .before .loop2-test .left) (inner .inv .0) (inner .inv .1) in
+    let first = each-done itemPlaces _ (inner .rest) (c .before .before .loop2-test .left) (inner .inv .0) (inner .inv .1) in
     (omega arith, simp length-set (here .inv .1), handed-turn _ _ (here .i) (here .slice) (here .places) (turn .loop-test .taken) first (c .before .ticket .ensures) (c .taken-from .ensures) (here .inv .2))
 
 same-length : tie.Need-same-length Inv-loop2 μ-loop2 Inv-loop μ-loop

@@ -12,7 +12,7 @@ use Rattle.words.specs.Words.{has, count, lowest}
 use Rattle.words.proofs.Walk.{each-turn, each-done, each-falls}
 use Rattle.rows.specs.declared.Connection.{Connection}
 use Rattle.rows.specs.Numbers.{noConnection}
-use Rattle.tables.specs.Tables.{table, owns}
+use Rattle.tables.specs.Tables.{table, owns, connectionPlaces}
 use Rattle.leaving.specs.Leaving.{ownedBy}
 use Rattle.words.proofs.Gathered.{gathered, gathered-all}
 use Rattle.tables.proofs.Used.{used-below}
@@ -23,15 +23,15 @@ use Rattle.leaving.proofs.owned_by.Tie as tie
 is-owned : List Connection → ℕ → ℕ → Bool
 is-owned connections thread k = eqb (getD connections k noConnection .thread) thread
 
-whole : (connections : List Connection) (attached thread : ℕ) → each 32 (has attached) (gathered (is-owned connections thread)) 0 ≡ ownedBy (table attached connections) thread
+whole : (connections : List Connection) (attached thread : ℕ) → each connectionPlaces (has attached) (gathered (is-owned connections thread)) 0 ≡ ownedBy (table attached connections) thread
 unfolding ownedBy owns is-owned
 whole connections attached thread =
-    gathered-all 32 attached (owns (table attached connections) thread) (is-owned connections thread) (omega arith)
+    gathered-all connectionPlaces attached (owns (table attached connections) thread) (is-owned connections thread) (omega arith)
     (λ k inside. ap (λ (b : Bool). b && is-owned connections thread k) (used-below attached inside))
 
 abbrev Inv-loop : tie.InvT-loop
 Inv-loop attached thread connections gone₀ rest₀ k₀ gone rest k =
-    (k ≡ lowest rest) × (each 32 (has rest) (gathered (is-owned connections thread)) gone ≡ ownedBy (table attached connections) thread)
+    (k ≡ lowest rest) × (each connectionPlaces (has rest) (gathered (is-owned connections thread)) gone ≡ ownedBy (table attached connections) thread)
 
 abbrev μ-loop : tie.MeasureT-loop
 μ-loop attached thread connections gone₀ rest₀ k₀ gone rest k = count rest
@@ -73,7 +73,7 @@ loop-again c =
     let args = at .before .before .args in (
       c .lowest2 .ensures,
       each-turn
-          32
+          connectionPlaces
           (gathered (is-owned (args .t1) (args .thread)))
           (at .loop .rest)
           (at .loop .gone)
@@ -87,7 +87,7 @@ loop-again c =
 
 returns : tie.Need-returns Inv-loop μ-loop
 returns c =
-    each-done 32 _ (c .before .loop .rest) (c .loop-test .left) (c .before .loop .inv .0) (c .before .loop .inv .1)
+    each-done connectionPlaces _ (c .before .loop .rest) (c .loop-test .left) (c .before .loop .inv .0) (c .before .loop .inv .1)
 
 pub owned-by-spec : {M : Type 1} → statement M
 owned-by-spec =

@@ -7,21 +7,21 @@ use Rattle.words.specs.Places.{each}
 use Rattle.words.specs.Words.{has, lowest, count}
 use Rattle.words.proofs.Walk.{each-turn, each-done, each-falls}
 use Rattle.rows.specs.Numbers.{noItem}
-use Rattle.tables.specs.Tables.{table}
+use Rattle.tables.specs.Tables.{table, connectionPlaces, itemPlaces}
 use Rattle.tables.proofs.Least.{awaitStep, leastStep, await-turn, asked-turn, asked-fewer, least-awaited-is}
 use Rattle.tables.proofs.times.least_awaited.Statement.{statement}
 use Rattle.tables.proofs.times.least_awaited.Tie as tie
 
 abbrev Inv-loop2 : tie.InvT-loop2
 Inv-loop2 attached present time connections items least rest p item awaited₀ left₀ k₀ awaited left k =
-    (k ≡ lowest left) × (each 32 (has left) (awaitStep (table attached connections) item p) awaited ≡ each 32 (has left₀) (awaitStep (table attached connections) item p) awaited₀)
+    (k ≡ lowest left) × (each connectionPlaces (has left) (awaitStep (table attached connections) item p) awaited ≡ each connectionPlaces (has left₀) (awaitStep (table attached connections) item p) awaited₀)
 
 abbrev μ-loop2 : tie.MeasureT-loop2
 μ-loop2 attached present time connections items least rest p item awaited₀ left₀ k₀ awaited left k = count left
 
 abbrev Inv-loop : tie.InvT-loop
 Inv-loop attached present time connections items least₀ rest₀ p₀ least rest p =
-    (p ≡ lowest rest) × (each 64 (has rest) (leastStep (table attached connections) (table present items)) least ≡ each 64 (has rest₀) (leastStep (table attached connections) (table present items)) least₀)
+    (p ≡ lowest rest) × (each itemPlaces (has rest) (leastStep (table attached connections) (table present items)) least ≡ each itemPlaces (has rest₀) (leastStep (table attached connections) (table present items)) least₀)
 
 abbrev μ-loop : tie.MeasureT-loop
 μ-loop attached present time connections items least₀ rest₀ p₀ least rest p = count rest
@@ -108,15 +108,15 @@ loop-again c =
     let turn = c .before .before .before .before .before .before .before .before in
     let here = turn .before .loop in
     let inner = c .before .before .before .before .loop2 in
-    let awaited = each-done 32 _ (inner .left) (c .before .before .before .loop2-test .left) (inner .inv .0) (inner .inv .1) in
+    let awaited = each-done connectionPlaces _ (inner .left) (c .before .before .before .loop2-test .left) (inner .inv .0) (inner .inv .1) in
     let args = c .before .before .before .before .before .before .before .before .before .before .before .args in
     let step = await-turn (table (args .attached) (args .t1)) (getD (args .t3) (here .p) noItem) (here .p) (here .least) (c .before .before .before .before .before .before .worth-looking .ensures) awaited (c .before .before .least-if .ensures) in
-    (c .lowest4 .ensures, each-turn 64 _ (here .rest) (here .least) (omega arith) (turn .loop-test .taken) (here .inv .0) step (c .before .without2 .ensures) (here .inv .1))
+    (c .lowest4 .ensures, each-turn itemPlaces _ (here .rest) (here .least) (omega arith) (turn .loop-test .taken) (here .inv .0) step (c .before .without2 .ensures) (here .inv .1))
 
 returns : tie.Need-returns Inv-loop2 μ-loop2 Inv-loop μ-loop
 returns c =
     let here = c .before .loop in
-    each-done 64 _ (here .rest) (c .loop-test .left) (here .inv .0) (here .inv .1) ∙ sym (least-awaited-is _ _ _ (omega arith))
+    each-done itemPlaces _ (here .rest) (c .loop-test .left) (here .inv .0) (here .inv .1) ∙ sym (least-awaited-is _ _ _ (omega arith))
 
 pub least-awaited-spec : {M : Type 1} → statement M
 least-awaited-spec =

@@ -7,12 +7,12 @@ use native.Mathlib.Omega.{arith}
 use Rattle.words.specs.Places.{each}
 use Rattle.words.specs.Words.{has, lowest, count}
 use Rattle.words.proofs.Walk.{each-turn, each-done, each-falls}
-use Rattle.tables.specs.Tables.{table}
+use Rattle.tables.specs.Tables.{table, threadPlaces}
 use Rattle.tables.proofs.Least.{timeStep, least-time-is}
 
 abbrev Inv-loop : tie.InvT-loop
 Inv-loop living threads least₀ rest₀ t₀ least rest t =
-    (t ≡ lowest rest) × (each 16 (has rest) (timeStep (table living threads)) least ≡ each 16 (has rest₀) (timeStep (table living threads)) least₀)
+    (t ≡ lowest rest) × (each threadPlaces (has rest) (timeStep (table living threads)) least ≡ each threadPlaces (has rest₀) (timeStep (table living threads)) least₀)
 
 abbrev μ-loop : tie.MeasureT-loop
 μ-loop living threads least₀ rest₀ t₀ least rest t = count rest
@@ -50,12 +50,12 @@ loop-again : tie.Need-loop-again Inv-loop μ-loop
 loop-again c =
     let turn = c .before .before .before .before in
     let here = turn .before .loop in
-    (c .lowest2 .ensures, each-turn 16 _ (here .rest) (here .least) (omega arith) (turn .loop-test .taken) (here .inv .0) (c .before .before .smaller .ensures) (c .before .without .ensures) (here .inv .1))
+    (c .lowest2 .ensures, each-turn threadPlaces _ (here .rest) (here .least) (omega arith) (turn .loop-test .taken) (here .inv .0) (c .before .before .smaller .ensures) (c .before .without .ensures) (here .inv .1))
 
 returns : tie.Need-returns Inv-loop μ-loop
 returns c =
     let here = c .before .loop in
-    each-done 16 _ (here .rest) (c .loop-test .left) (here .inv .0) (here .inv .1) ∙ sym (least-time-is _)
+    each-done threadPlaces _ (here .rest) (c .loop-test .left) (here .inv .0) (here .inv .1) ∙ sym (least-time-is _)
 
 pub least-time-spec : {M : Type 1} → statement M
 least-time-spec =
