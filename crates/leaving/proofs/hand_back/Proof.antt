@@ -28,41 +28,14 @@ Inv-loop gone slice₀ items n places₀ i₀ slice places i =
 abbrev μ-loop : tie.MeasureT-loop
 μ-loop gone slice₀ items n places₀ i₀ slice places i = n - i
 
-count-requires : tie.Need-count-requires Inv-loop2 μ-loop2 Inv-loop μ-loop
-count-requires c κs = search needs
-
-cast-n : tie.Need-cast-n Inv-loop2 μ-loop2 Inv-loop μ-loop
-cast-n c = search needs
-
 returns : tie.Need-returns Inv-loop2 μ-loop2 Inv-loop μ-loop
 returns c = handed-short _ _ _ (c .before .count .ensures) (c .if1 .taken)
 
 loop-holds : tie.Need-loop-holds Inv-loop2 μ-loop2 Inv-loop μ-loop
 loop-holds c = (omega arith, refl, refl)
 
-lowest-requires : tie.Need-lowest-requires Inv-loop2 μ-loop2 Inv-loop μ-loop
-lowest-requires c κs = search needs
-
 loop2-holds : tie.Need-loop2-holds Inv-loop2 μ-loop2 Inv-loop μ-loop
 loop2-holds c = (c .lowest .ensures, refl)
-
-cast-item : tie.Need-cast-item Inv-loop2 μ-loop2 Inv-loop μ-loop
-cast-item c = search needs
-
-mul-item : tie.Need-mul-item Inv-loop2 μ-loop2 Inv-loop μ-loop
-mul-item c = search needs
-
-array-copy-out-item : tie.Need-array-copy-out-item Inv-loop2 μ-loop2 Inv-loop μ-loop
-array-copy-out-item c = search needs
-
-or-before-requires : tie.Need-or-before-requires Inv-loop2 μ-loop2 Inv-loop μ-loop
-or-before-requires c κs = search needs
-
-without-requires : tie.Need-without-requires Inv-loop2 μ-loop2 Inv-loop μ-loop
-without-requires c κs = search needs
-
-lowest-requires-2 : tie.Need-lowest-requires-2 Inv-loop2 μ-loop2 Inv-loop μ-loop
-lowest-requires-2 c κs = search needs
 
 loop2-less : tie.Need-loop2-less Inv-loop2 μ-loop2 Inv-loop μ-loop
 loop2-less c =
@@ -74,24 +47,6 @@ loop2-again c =
     let turn = c .before .before .before .before in
     let here = turn .before .loop2 in
     (c .lowest2 .ensures, each-turn itemPlaces _ (here .rest) (here .found) (omega arith) (turn .loop2-test .taken) (here .inv .0) (c .before .before .or-before .ensures) (c .before .without .ensures) (here .inv .1))
-
-ticket-requires : tie.Need-ticket-requires Inv-loop2 μ-loop2 Inv-loop μ-loop
-ticket-requires c κs = search needs
-
-mul-slice : tie.Need-mul-slice Inv-loop2 μ-loop2 Inv-loop μ-loop
-mul-slice c = search needs
-
-slice-write-slice : tie.Need-slice-write-slice Inv-loop2 μ-loop2 Inv-loop μ-loop
-slice-write-slice c = search needs
-
-taken-from-requires : tie.Need-taken-from-requires Inv-loop2 μ-loop2 Inv-loop μ-loop
-taken-from-requires c κs = search needs
-
-add-i : tie.Need-add-i Inv-loop2 μ-loop2 Inv-loop μ-loop
-add-i c = search needs
-
-loop-less : tie.Need-loop-less Inv-loop2 μ-loop2 Inv-loop μ-loop
-loop-less c = search needs
 
 loop-again : tie.Need-loop-again Inv-loop2 μ-loop2 Inv-loop μ-loop
 unfolding firstOf chosen
@@ -118,26 +73,26 @@ hand-back-spec =
     μ-loop2
     Inv-loop
     μ-loop
-    count-requires
-    cast-n
+    (λ c κs. search needs)
+    (λ c. search needs)
     returns
     loop-holds
-    lowest-requires
+    (λ c κs. search needs)
     loop2-holds
-    cast-item
-    mul-item
-    array-copy-out-item
-    or-before-requires
-    without-requires
-    lowest-requires-2
+    (λ c. search needs)
+    (λ c. search needs)
+    (λ c. search needs)
+    (λ c κs. search needs)
+    (λ c κs. search needs)
+    (λ c κs. search needs)
     loop2-less
     loop2-again
-    ticket-requires
-    mul-slice
-    slice-write-slice
-    taken-from-requires
-    add-i
-    loop-less
+    (λ c κs. search needs)
+    (λ c. search needs)
+    (λ c. search needs)
+    (λ c κs. search needs)
+    (λ c. search needs)
+    (λ c. search needs)
     loop-again
     same-length
     returns-2)

@@ -33,29 +33,8 @@ Inv-loop present bound items gone₀ rest₀ p₀ gone rest p =
 abbrev μ-loop : tie.MeasureT-loop
 μ-loop present bound items gone₀ rest₀ p₀ gone rest p = count rest
 
-lowest-requires : tie.Need-lowest-requires Inv-loop μ-loop
-lowest-requires c κs = search needs
-
 loop-holds : tie.Need-loop-holds Inv-loop μ-loop
 loop-holds c = (c .lowest .ensures, whole (c .before .args .t1) (c .before .args .present) (c .before .args .bound))
-
-cast-item : tie.Need-cast-item Inv-loop μ-loop
-cast-item c = search needs
-
-mul-item : tie.Need-mul-item Inv-loop μ-loop
-mul-item c = search needs
-
-array-copy-out-item : tie.Need-array-copy-out-item Inv-loop μ-loop
-array-copy-out-item c = search needs
-
-with-if-requires : tie.Need-with-if-requires Inv-loop μ-loop
-with-if-requires c κs = search needs
-
-without-requires : tie.Need-without-requires Inv-loop μ-loop
-without-requires c κs = search needs
-
-lowest-requires-2 : tie.Need-lowest-requires-2 Inv-loop μ-loop
-lowest-requires-2 c κs = search needs
 
 loop-less : tie.Need-loop-less Inv-loop μ-loop
 loop-less c =
@@ -92,14 +71,14 @@ items-below-spec =
     (tie.spec
     Inv-loop
     μ-loop
-    lowest-requires
+    (λ c κs. search needs)
     loop-holds
-    cast-item
-    mul-item
-    array-copy-out-item
-    with-if-requires
-    without-requires
-    lowest-requires-2
+    (λ c. search needs)
+    (λ c. search needs)
+    (λ c. search needs)
+    (λ c κs. search needs)
+    (λ c κs. search needs)
+    (λ c κs. search needs)
     loop-less
     loop-again
     returns)

@@ -87,12 +87,6 @@ Inv-loop present connection which items found₀ rest₀ p₀ found rest p =
 abbrev μ-loop : tie.MeasureT-loop
 μ-loop present connection which items found₀ rest₀ p₀ found rest p = count rest
 
-unseen-places-requires : tie.Need-unseen-places-requires Inv-loop μ-loop
-unseen-places-requires c κs = search needs
-
-lowest-requires : tie.Need-lowest-requires Inv-loop μ-loop
-lowest-requires c κs = search needs
-
 loop-holds : tie.Need-loop-holds Inv-loop μ-loop
 unfolding unseen
 loop-holds c =
@@ -100,27 +94,6 @@ loop-holds c =
     let turns = step (args .t1) (args .connection) (args .which) in
     let started = ap (λ (w : ℕ). each itemPlaces (has w) turns Nothing) (c .before .unseen-places .ensures) in
     (c .lowest .ensures, started ∙ whole (args .t1) (args .connection) (args .which) (args .present))
-
-cast-item : tie.Need-cast-item Inv-loop μ-loop
-cast-item c = search needs
-
-mul-item : tie.Need-mul-item Inv-loop μ-loop
-mul-item c = search needs
-
-array-copy-out-item : tie.Need-array-copy-out-item Inv-loop μ-loop
-array-copy-out-item c = search needs
-
-without-requires : tie.Need-without-requires Inv-loop μ-loop
-without-requires c κs = search needs
-
-lowest-requires-2 : tie.Need-lowest-requires-2 Inv-loop μ-loop
-lowest-requires-2 c κs = search needs
-
-is-tried-requires : tie.Need-is-tried-requires Inv-loop μ-loop
-is-tried-requires c κs = search needs
-
-or-taken-requires : tie.Need-or-taken-requires Inv-loop μ-loop
-or-taken-requires c κs = search needs
 
 -- whatever the turn found, fewer places are left
 fewer : (c : tie.After-lowest2 Inv-loop μ-loop) → count (c .before .without .result) < count (c .before .before .before .before .loop .rest)
@@ -179,16 +152,16 @@ seek-spec =
     (tie.spec
     Inv-loop
     μ-loop
-    unseen-places-requires
-    lowest-requires
+    (λ c κs. search needs)
+    (λ c κs. search needs)
     loop-holds
-    cast-item
-    mul-item
-    array-copy-out-item
-    without-requires
-    lowest-requires-2
-    is-tried-requires
-    or-taken-requires
+    (λ c. search needs)
+    (λ c. search needs)
+    (λ c. search needs)
+    (λ c κs. search needs)
+    (λ c κs. search needs)
+    (λ c κs. search needs)
+    (λ c κs. search needs)
     loop-less
     loop-again
     loop-less-2

@@ -26,53 +26,11 @@ Inv-loop attached present time connections items least₀ rest₀ p₀ least res
 abbrev μ-loop : tie.MeasureT-loop
 μ-loop attached present time connections items least₀ rest₀ p₀ least rest p = count rest
 
-lowest-requires : tie.Need-lowest-requires Inv-loop2 μ-loop2 Inv-loop μ-loop
-lowest-requires c κs = search needs
-
 loop-holds : tie.Need-loop-holds Inv-loop2 μ-loop2 Inv-loop μ-loop
 loop-holds c = (c .lowest .ensures, refl)
 
-cast-item : tie.Need-cast-item Inv-loop2 μ-loop2 Inv-loop μ-loop
-cast-item c = search needs
-
-mul-item : tie.Need-mul-item Inv-loop2 μ-loop2 Inv-loop μ-loop
-mul-item c = search needs
-
-array-copy-out-item : tie.Need-array-copy-out-item Inv-loop2 μ-loop2 Inv-loop μ-loop
-array-copy-out-item c = search needs
-
-worth-looking-requires : tie.Need-worth-looking-requires Inv-loop2 μ-loop2 Inv-loop μ-loop
-worth-looking-requires c κs = search needs
-
-lowest-requires-2 : tie.Need-lowest-requires-2 Inv-loop2 μ-loop2 Inv-loop μ-loop
-lowest-requires-2 c κs = search needs
-
 loop2-holds : tie.Need-loop2-holds Inv-loop2 μ-loop2 Inv-loop μ-loop
 loop2-holds c = (c .lowest2 .ensures, refl)
-
-cast-connection : tie.Need-cast-connection Inv-loop2 μ-loop2 Inv-loop μ-loop
-cast-connection c = search needs
-
-mul-connection : tie.Need-mul-connection Inv-loop2 μ-loop2 Inv-loop μ-loop
-mul-connection c = search needs
-
-array-copy-out-connection : tie.Need-array-copy-out-connection Inv-loop2 μ-loop2 Inv-loop μ-loop
-array-copy-out-connection c = search needs
-
-awaits-requires : tie.Need-awaits-requires Inv-loop2 μ-loop2 Inv-loop μ-loop
-awaits-requires c κs = search needs
-
-true-if-requires : tie.Need-true-if-requires Inv-loop2 μ-loop2 Inv-loop μ-loop
-true-if-requires c κs = search needs
-
-without-requires : tie.Need-without-requires Inv-loop2 μ-loop2 Inv-loop μ-loop
-without-requires c κs = search needs
-
-still-asked-requires : tie.Need-still-asked-requires Inv-loop2 μ-loop2 Inv-loop μ-loop
-still-asked-requires c κs = search needs
-
-lowest-requires-3 : tie.Need-lowest-requires-3 Inv-loop2 μ-loop2 Inv-loop μ-loop
-lowest-requires-3 c κs = search needs
 
 loop2-less : tie.Need-loop2-less Inv-loop2 μ-loop2 Inv-loop μ-loop
 loop2-less c =
@@ -88,15 +46,6 @@ loop2-again c =
     let p = outer .loop .p in
     let step = c .before .before .before .true-if .ensures in
     (c .lowest3 .ensures, asked-turn (table (args .attached) (args .t1)) (getD (args .t3) p noItem) p (here .left) (here .awaited) (turn .loop2-test .taken) (here .inv .0) (c .before .before .before .before .awaits .ensures) step (c .before .before .without .ensures) (c .before .still-asked .ensures) (here .inv .1))
-
-least-if-requires : tie.Need-least-if-requires Inv-loop2 μ-loop2 Inv-loop μ-loop
-least-if-requires c κs = search needs
-
-without-requires-2 : tie.Need-without-requires-2 Inv-loop2 μ-loop2 Inv-loop μ-loop
-without-requires-2 c κs = search needs
-
-lowest-requires-4 : tie.Need-lowest-requires-4 Inv-loop2 μ-loop2 Inv-loop μ-loop
-lowest-requires-4 c κs = search needs
 
 loop-less : tie.Need-loop-less Inv-loop2 μ-loop2 Inv-loop μ-loop
 loop-less c =
@@ -126,27 +75,27 @@ least-awaited-spec =
     μ-loop2
     Inv-loop
     μ-loop
-    lowest-requires
+    (λ c κs. search needs)
     loop-holds
-    cast-item
-    mul-item
-    array-copy-out-item
-    worth-looking-requires
-    lowest-requires-2
+    (λ c. search needs)
+    (λ c. search needs)
+    (λ c. search needs)
+    (λ c κs. search needs)
+    (λ c κs. search needs)
     loop2-holds
-    cast-connection
-    mul-connection
-    array-copy-out-connection
-    awaits-requires
-    true-if-requires
-    without-requires
-    still-asked-requires
-    lowest-requires-3
+    (λ c. search needs)
+    (λ c. search needs)
+    (λ c. search needs)
+    (λ c κs. search needs)
+    (λ c κs. search needs)
+    (λ c κs. search needs)
+    (λ c κs. search needs)
+    (λ c κs. search needs)
     loop2-less
     loop2-again
-    least-if-requires
-    without-requires-2
-    lowest-requires-4
+    (λ c κs. search needs)
+    (λ c κs. search needs)
+    (λ c κs. search needs)
     loop-less
     loop-again
     returns)

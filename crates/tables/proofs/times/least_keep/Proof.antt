@@ -17,29 +17,8 @@ Inv-loop attached connections least₀ rest₀ k₀ least rest k =
 abbrev μ-loop : tie.MeasureT-loop
 μ-loop attached connections least₀ rest₀ k₀ least rest k = count rest
 
-lowest-requires : tie.Need-lowest-requires Inv-loop μ-loop
-lowest-requires c κs = search needs
-
 loop-holds : tie.Need-loop-holds Inv-loop μ-loop
 loop-holds c = (c .lowest .ensures, refl)
-
-cast-connection : tie.Need-cast-connection Inv-loop μ-loop
-cast-connection c = search needs
-
-mul-connection : tie.Need-mul-connection Inv-loop μ-loop
-mul-connection c = search needs
-
-array-copy-out-connection : tie.Need-array-copy-out-connection Inv-loop μ-loop
-array-copy-out-connection c = search needs
-
-least-if-requires : tie.Need-least-if-requires Inv-loop μ-loop
-least-if-requires c κs = search needs
-
-without-requires : tie.Need-without-requires Inv-loop μ-loop
-without-requires c κs = search needs
-
-lowest-requires-2 : tie.Need-lowest-requires-2 Inv-loop μ-loop
-lowest-requires-2 c κs = search needs
 
 loop-less : tie.Need-loop-less Inv-loop μ-loop
 loop-less c =
@@ -63,14 +42,14 @@ least-keep-spec =
     (tie.spec
     Inv-loop
     μ-loop
-    lowest-requires
+    (λ c κs. search needs)
     loop-holds
-    cast-connection
-    mul-connection
-    array-copy-out-connection
-    least-if-requires
-    without-requires
-    lowest-requires-2
+    (λ c. search needs)
+    (λ c. search needs)
+    (λ c. search needs)
+    (λ c κs. search needs)
+    (λ c κs. search needs)
+    (λ c κs. search needs)
     loop-less
     loop-again
     returns)

@@ -25,53 +25,11 @@ Inv-loop attached present thread connections items least₀ rest₀ k₀ least r
 abbrev μ-loop : tie.MeasureT-loop
 μ-loop attached present thread connections items least₀ rest₀ k₀ least rest k = count rest
 
-lowest-requires : tie.Need-lowest-requires Inv-loop2 μ-loop2 Inv-loop μ-loop
-lowest-requires c κs = search needs
-
 loop-holds : tie.Need-loop-holds Inv-loop2 μ-loop2 Inv-loop μ-loop
 loop-holds c = (c .lowest .ensures, refl)
 
-cast-connection : tie.Need-cast-connection Inv-loop2 μ-loop2 Inv-loop μ-loop
-cast-connection c = search needs
-
-mul-connection : tie.Need-mul-connection Inv-loop2 μ-loop2 Inv-loop μ-loop
-mul-connection c = search needs
-
-array-copy-out-connection : tie.Need-array-copy-out-connection Inv-loop2 μ-loop2 Inv-loop μ-loop
-array-copy-out-connection c = search needs
-
-reads-row-requires : tie.Need-reads-row-requires Inv-loop2 μ-loop2 Inv-loop μ-loop
-reads-row-requires c κs = search needs
-
-open-places-requires : tie.Need-open-places-requires Inv-loop2 μ-loop2 Inv-loop μ-loop
-open-places-requires c κs = search needs
-
-lowest-requires-2 : tie.Need-lowest-requires-2 Inv-loop2 μ-loop2 Inv-loop μ-loop
-lowest-requires-2 c κs = search needs
-
 loop2-holds : tie.Need-loop2-holds Inv-loop2 μ-loop2 Inv-loop μ-loop
 loop2-holds c = (c .lowest2 .ensures, refl)
-
-cast-item : tie.Need-cast-item Inv-loop2 μ-loop2 Inv-loop μ-loop
-cast-item c = search needs
-
-mul-item : tie.Need-mul-item Inv-loop2 μ-loop2 Inv-loop μ-loop
-mul-item c = search needs
-
-array-copy-out-item : tie.Need-array-copy-out-item Inv-loop2 μ-loop2 Inv-loop μ-loop
-array-copy-out-item c = search needs
-
-looks-at-requires : tie.Need-looks-at-requires Inv-loop2 μ-loop2 Inv-loop μ-loop
-looks-at-requires c κs = search needs
-
-least-if-requires : tie.Need-least-if-requires Inv-loop2 μ-loop2 Inv-loop μ-loop
-least-if-requires c κs = search needs
-
-without-requires : tie.Need-without-requires Inv-loop2 μ-loop2 Inv-loop μ-loop
-without-requires c κs = search needs
-
-lowest-requires-3 : tie.Need-lowest-requires-3 Inv-loop2 μ-loop2 Inv-loop μ-loop
-lowest-requires-3 c κs = search needs
 
 loop2-less : tie.Need-loop2-less Inv-loop2 μ-loop2 Inv-loop μ-loop
 loop2-less c =
@@ -84,15 +42,6 @@ loop2-again c =
     let here = turn .before .loop2 in
     let step = least-if-by _ (here .«open») (c .before .before .least-if .ensures) (c .before .before .before .looks-at .ensures) in
     (c .lowest3 .ensures, each-turn itemPlaces _ (here .left) (here .«open») (omega arith) (turn .loop2-test .taken) (here .inv .0) step (c .before .without .ensures) (here .inv .1))
-
-least-if-requires-2 : tie.Need-least-if-requires-2 Inv-loop2 μ-loop2 Inv-loop μ-loop
-least-if-requires-2 c κs = search needs
-
-without-requires-2 : tie.Need-without-requires-2 Inv-loop2 μ-loop2 Inv-loop μ-loop
-without-requires-2 c κs = search needs
-
-lowest-requires-4 : tie.Need-lowest-requires-4 Inv-loop2 μ-loop2 Inv-loop μ-loop
-lowest-requires-4 c κs = search needs
 
 loop-less : tie.Need-loop-less Inv-loop2 μ-loop2 Inv-loop μ-loop
 loop-less c =
@@ -121,27 +70,27 @@ least-open-spec =
     μ-loop2
     Inv-loop
     μ-loop
-    lowest-requires
+    (λ c κs. search needs)
     loop-holds
-    cast-connection
-    mul-connection
-    array-copy-out-connection
-    reads-row-requires
-    open-places-requires
-    lowest-requires-2
+    (λ c. search needs)
+    (λ c. search needs)
+    (λ c. search needs)
+    (λ c κs. search needs)
+    (λ c κs. search needs)
+    (λ c κs. search needs)
     loop2-holds
-    cast-item
-    mul-item
-    array-copy-out-item
-    looks-at-requires
-    least-if-requires
-    without-requires
-    lowest-requires-3
+    (λ c. search needs)
+    (λ c. search needs)
+    (λ c. search needs)
+    (λ c κs. search needs)
+    (λ c κs. search needs)
+    (λ c κs. search needs)
+    (λ c κs. search needs)
     loop2-less
     loop2-again
-    least-if-requires-2
-    without-requires-2
-    lowest-requires-4
+    (λ c κs. search needs)
+    (λ c κs. search needs)
+    (λ c κs. search needs)
     loop-less
     loop-again
     returns)

@@ -17,29 +17,8 @@ Inv-loop living threads least₀ rest₀ t₀ least rest t =
 abbrev μ-loop : tie.MeasureT-loop
 μ-loop living threads least₀ rest₀ t₀ least rest t = count rest
 
-lowest-requires : tie.Need-lowest-requires Inv-loop μ-loop
-lowest-requires c κs = search needs
-
 loop-holds : tie.Need-loop-holds Inv-loop μ-loop
 loop-holds c = (c .lowest .ensures, refl)
-
-cast-thread : tie.Need-cast-thread Inv-loop μ-loop
-cast-thread c = search needs
-
-mul-thread : tie.Need-mul-thread Inv-loop μ-loop
-mul-thread c = search needs
-
-array-copy-out-thread : tie.Need-array-copy-out-thread Inv-loop μ-loop
-array-copy-out-thread c = search needs
-
-smaller-requires : tie.Need-smaller-requires Inv-loop μ-loop
-smaller-requires c κs = search needs
-
-without-requires : tie.Need-without-requires Inv-loop μ-loop
-without-requires c κs = search needs
-
-lowest-requires-2 : tie.Need-lowest-requires-2 Inv-loop μ-loop
-lowest-requires-2 c κs = search needs
 
 loop-less : tie.Need-loop-less Inv-loop μ-loop
 loop-less c =
@@ -63,14 +42,14 @@ least-time-spec =
     (tie.spec
     Inv-loop
     μ-loop
-    lowest-requires
+    (λ c κs. search needs)
     loop-holds
-    cast-thread
-    mul-thread
-    array-copy-out-thread
-    smaller-requires
-    without-requires
-    lowest-requires-2
+    (λ c. search needs)
+    (λ c. search needs)
+    (λ c. search needs)
+    (λ c κs. search needs)
+    (λ c κs. search needs)
+    (λ c κs. search needs)
     loop-less
     loop-again
     returns)
