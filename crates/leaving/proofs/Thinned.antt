@@ -5,7 +5,7 @@ use Prim.Native.Nat.{_<_, _≤_, ℕ}
 use native.Mathlib.Decide.{decLt}
 use native.Mathlib.Omega.{arith}
 use lib.ListN.{List·getD-eq-default, getD}
-use Rattle.words.specs.Words.{except, has}
+use Rattle.words.specs.Words.{except, has, wordPlaces}
 use Rattle.words.proofs.Changes.{except-kept, except-stays, except-was}
 use Rattle.words.proofs.YesOrNo.{bool-cases, not-then}
 use Rattle.tables.specs.Order.{Tidy}
@@ -27,7 +27,7 @@ tidy-by-rule places zeros used rule inside free = record {
   ];
 }
 
-module _ {A : Type 0} {places : ℕ} {zeros : A} {t : Table A} (tidy : Tidy places zeros t) (fits : places ≤ 64) where
+module _ {A : Type 0} {places : ℕ} {zeros : A} {t : Table A} (tidy : Tidy places zeros t) (fits : places ≤ wordPlaces) where
   abbrev thinned : ℕ → ℕ → A
   thinned gone place = cond (has gone place) zeros (getD (t .rows) place zeros)
 

@@ -12,20 +12,21 @@ use Rattle.words.proofs.Laws.{except-at, with-other, with-same, without-other}
 use Rattle.words.proofs.YesOrNo.{bool-cases}
 use Rattle.calls.specs.declared.State.the-variants.{Consumed, Open}
 use Rattle.rows.specs.Facts.{cleared, consumedByName, got, raised, withFacts}
+use Rattle.rows.specs.Numbers.{itemPlaces}
 use Rattle.rows.specs.States.{stateOf}
 use Rattle.rows.specs.declared.Connection.{Connection}
 use Rattle.rows.proofs.Seen.{state-present}
 
 -- other facts, which are the same at the place
-pub same-facts : (c : Connection) (opened consumed s p : ℕ) → (p < 64 → has opened p ≡ has (c .opened) p) → (p < 64 → has consumed p ≡ has (c .consumed) p)
+pub same-facts : (c : Connection) (opened consumed s p : ℕ) → (p < itemPlaces → has opened p ≡ has (c .opened) p) → (p < itemPlaces → has consumed p ≡ has (c .consumed) p)
     → stateOf (withFacts c opened consumed) s p ≡ stateOf c s p
 unfolding stateOf
 same-facts c opened consumed s p same-opened same-consumed =
-    bool-cases (leb 64 p) (λ past. rw past) (λ e. let inside : p < 64 = leb-false 64 p e in rw (same-opened inside, same-consumed inside))
+    bool-cases (leb itemPlaces p) (λ past. rw past) (λ e. let inside : p < itemPlaces = leb-false itemPlaces p e in rw (same-opened inside, same-consumed inside))
 
 module _ (c : Connection) (s p : ℕ) where
   -- a get, at its place and beside it
-  pub got-here : p < 64 → c .mark ≤ s → has (c .consumed) p ≡ false → stateOf (got c p) s p ≡ Open
+  pub got-here : p < itemPlaces → c .mark ≤ s → has (c .consumed) p ≡ false → stateOf (got c p) s p ≡ Open
   unfolding got
   got-here inside above kept = state-present (got c p) s p inside ∙ rw (le-leb (c .mark) s above, with-same (c .opened) inside, kept)
 
@@ -34,7 +35,7 @@ module _ (c : Connection) (s p : ℕ) where
   got-beside place apart = same-facts c (with (c .opened) place) (c .consumed) s p (λ inside. with-other (c .opened) inside apart) (λ inside. refl)
 
   -- a consume by name
-  pub consumed-here : p < 64 → c .mark ≤ s → stateOf (consumedByName c p) s p ≡ Consumed
+  pub consumed-here : p < itemPlaces → c .mark ≤ s → stateOf (consumedByName c p) s p ≡ Consumed
   unfolding consumedByName
   consumed-here inside above = state-present (consumedByName c p) s p inside ∙ rw (le-leb (c .mark) s above, with-same (c .consumed) inside)
 
@@ -48,7 +49,7 @@ module _ (c : Connection) (s p : ℕ) where
   unfolding cleared
   cleared-kept gone stays = same-facts c (except (c .opened) gone) (except (c .consumed) gone) s p (kept (c .opened)) (kept (c .consumed))
     where
-      kept : (w : ℕ) → p < 64 → has (except w gone) p ≡ has w p
+      kept : (w : ℕ) → p < itemPlaces → has (except w gone) p ≡ has w p
       kept w inside = except-at w gone inside ∙ rw stays (and-true (has w p))
 
   -- a raised mark: below the time all is CONSUMED, and from it on nothing changes

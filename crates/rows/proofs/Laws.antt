@@ -9,14 +9,6 @@ use lib.Dec.{ltb}
 use borrow.Author.Tests.{ltb-false}
 use Rattle.rows.specs.Times.{leastIf}
 
-pub least-if-true : {counts : Bool} → counts ≡ true → (time least : ℕ) → leastIf counts time least ≡ min time least
-unfolding leastIf
-least-if-true counted time least = rw counted
-
-pub least-if-false : {counts : Bool} → counts ≡ false → (time least : ℕ) → leastIf counts time least ≡ least
-unfolding leastIf
-least-if-false passed-over time least = rw passed-over
-
 -- a step whose test was made beforehand
 pub least-if-by : (time least : ℕ) {counts holds : Bool} {x : ℕ} → x ≡ leastIf counts time least → counts ≡ holds → x ≡ leastIf holds time least
 least-if-by time least step test = step ∙ ap (λ (t : Bool). leastIf t time least) test

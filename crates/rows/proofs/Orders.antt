@@ -5,7 +5,7 @@ use mathlib.Core.Path.{_≡_, refl, sym}
 use Prim.Native.Nat.{_<_, _≤_}
 use native.Mathlib.Nat.{le-refl}
 use native.Mathlib.Omega.{arith}
-use lib.Dec.{eqb}
+use lib.Dec.{eqb, ltb}
 use borrow.Author.Tests.{eq-eqb, eqb-false, eqb-true, le-ltb, lt-ltb, ltb-false, ltb-true, ne-eqb}
 use Rattle.words.proofs.YesOrNo.{bool-cases}
 use Rattle.calls.specs.declared.Which.{Which}
@@ -20,9 +20,13 @@ taken-irreflexive Earliest item = le-ltb _ _ (le-refl (item .timestamp))
 taken-irreflexive Latest item = le-ltb _ _ (le-refl (item .timestamp))
 taken-irreflexive (Named timestamp) item = refl
 
+earlier-still : (a b c : Item) → ltb (a .timestamp) (b .timestamp) ≡ true → ltb (b .timestamp) (c .timestamp) ≡ true → ltb (a .timestamp) (c .timestamp) ≡ true
+earlier-still a b c x y =
+    lt-ltb (a .timestamp) (c .timestamp) (omega (arith, ltb-true (a .timestamp) (b .timestamp) x, ltb-true (b .timestamp) (c .timestamp) y))
+
 pub taken-transitive : (which : Which) (a b c : Item) → takenBefore which a b ≡ true → takenBefore which b c ≡ true → takenBefore which a c ≡ true
-taken-transitive Earliest a b c x y = lt-ltb (a .timestamp) (c .timestamp) (omega (arith, ltb-true (a .timestamp) (b .timestamp) x, ltb-true (b .timestamp) (c .timestamp) y))
-taken-transitive Latest a b c x y = lt-ltb (c .timestamp) (a .timestamp) (omega (arith, ltb-true (b .timestamp) (a .timestamp) x, ltb-true (c .timestamp) (b .timestamp) y))
+taken-transitive Earliest a b c x y = earlier-still a b c x y
+taken-transitive Latest a b c x y = earlier-still c b a y x
 taken-transitive (Named timestamp) a b c x y = x
 
 -- ---- "by channel number, then timestamp" is a strict order, total on items whose pairs differ

@@ -9,21 +9,22 @@ use Rattle.words.specs.Words.{has}
 use Rattle.words.proofs.YesOrNo.{and-left, and-right, bool-cases, true-not-false}
 use Rattle.calls.specs.States.{isOpen, isPending, isUnseen}
 use Rattle.calls.specs.declared.State.the-variants.{Absent, Consumed, Open}
+use Rattle.rows.specs.Numbers.{itemPlaces}
 use Rattle.rows.specs.States.{byName, stateOf}
 use Rattle.rows.specs.declared.Connection.{Connection}
 
 -- of a timestamp whose item is present
-pub state-present : (c : Connection) (s p : ℕ) → p < 64 → stateOf c s p ≡ cond (leb (c .mark) s) (byName (has (c .opened) p) (has (c .consumed) p)) Consumed
+pub state-present : (c : Connection) (s p : ℕ) → p < itemPlaces → stateOf c s p ≡ cond (leb (c .mark) s) (byName (has (c .opened) p) (has (c .consumed) p)) Consumed
 unfolding stateOf
 state-present c s p inside =
     bool-cases (ltb s (c .mark))
     (λ below. simp (below, lt-leb (c .mark) s (ltb-true s (c .mark) below)))
-    (λ above. simp (above, lt-leb 64 p inside, le-leb (c .mark) s (ltb-false s (c .mark) above)))
+    (λ above. simp (above, lt-leb itemPlaces p inside, le-leb (c .mark) s (ltb-false s (c .mark) above)))
 
 -- of one whose item is not
-pub state-absent : (c : Connection) (s p : ℕ) → 64 ≤ p → stateOf c s p ≡ cond (ltb s (c .mark)) Consumed Absent
+pub state-absent : (c : Connection) (s p : ℕ) → itemPlaces ≤ p → stateOf c s p ≡ cond (ltb s (c .mark)) Consumed Absent
 unfolding stateOf
-state-absent c s p past = rw (le-leb 64 p past)
+state-absent c s p past = rw (le-leb itemPlaces p past)
 
 open-by : (above opened consumed : Bool) → isOpen (cond above (byName opened consumed) Consumed) ≡ (above && (opened && not consumed))
 open-by false opened consumed = refl
@@ -45,7 +46,7 @@ pending-by true opened true = refl
 pending-by true true false = refl
 pending-by true false false = refl
 
-module _ (c : Connection) (s p : ℕ) (inside : p < 64) where
+module _ (c : Connection) (s p : ℕ) (inside : p < itemPlaces) where
   pub open-is : isOpen (stateOf c s p) ≡ (leb (c .mark) s && (has (c .opened) p && not (has (c .consumed) p)))
   open-is = ap isOpen (state-present c s p inside) ∙ open-by (leb (c .mark) s) (has (c .opened) p) (has (c .consumed) p)
 
@@ -58,7 +59,7 @@ module _ (c : Connection) (s p : ℕ) (inside : p < 64) where
 -- a pending timestamp is not below the mark, its item has a place, and it is not consumed there
 pub record Unconsumed (row : Connection) (timestamp place : ℕ) : Type 0 where
   pub mark : row .mark ≤ timestamp
-  pub inside : place < 64
+  pub inside : place < itemPlaces
   pub kept : has (row .consumed) place ≡ false
 
 pending-means : (below past opened consumed : Bool) → isPending (cond below Consumed (cond past Absent (byName opened consumed))) ≡ true
@@ -72,8 +73,8 @@ module _ (row : Connection) (timestamp place : ℕ) where
   pub unconsumed : isPending (stateOf row timestamp place) ≡ true → Unconsumed row timestamp place
   unfolding stateOf
   unconsumed pending =
-      let (above, inside, kept) = pending-means (ltb timestamp (row .mark)) (leb 64 place) (has (row .opened) place) (has (row .consumed) place) pending in
-      record { mark = ltb-false timestamp (row .mark) above; inside = leb-false 64 place inside; kept = kept }
+      let (above, inside, kept) = pending-means (ltb timestamp (row .mark)) (leb itemPlaces place) (has (row .opened) place) (has (row .consumed) place) pending in
+      record { mark = ltb-false timestamp (row .mark) above; inside = leb-false itemPlaces place inside; kept = kept }
 
   -- an open timestamp has the fact open at its place
   pub open-fact : stateOf row timestamp place ≡ Open → has (row .opened) place ≡ true

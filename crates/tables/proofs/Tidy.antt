@@ -6,13 +6,13 @@ use native.Mathlib.Decide.{ℕ-discrete}
 use native.Mathlib.Omega.{arith}
 use lib.ListN.{getD, length-replicate, length-set, replicate, set}
 use lib.Seq.{getD-set-other, getD-set-same}
-use Rattle.words.specs.Words.{has}
+use Rattle.words.specs.Words.{has, wordPlaces}
 use Rattle.words.proofs.Changes.{Elsewhere}
 use Rattle.words.proofs.YesOrNo.{not-then}
 use Rattle.tables.specs.Order.{Tidy}
 use Rattle.tables.specs.Tables.{Table, table}
 
-module _ {A : Type 0} {places : ℕ} {zeros : A} {t : Table A} (tidy : Tidy places zeros t) (fits : places ≤ 64)
+module _ {A : Type 0} {places : ℕ} {zeros : A} {t : Table A} (tidy : Tidy places zeros t) (fits : places ≤ wordPlaces)
     {word p : ℕ} (else : Elsewhere word (t .used) p) (below : p < places) (row : A) where
   pub tidy-set : (has word p ≡ false → row ≡ zeros) → Tidy places zeros (table word (set (t .rows) p row))
   tidy-set freed = record {

@@ -6,12 +6,12 @@ use Prim.Native.Nat.{_<_, _≤_, ℕ}
 use native.Mathlib.Omega.{arith}
 use lib.Dec.{eqb, ltb}
 use borrow.Author.Tests.{lt-ltb, ltb-true}
-use Rattle.words.specs.Words.{except, has}
+use Rattle.words.specs.Words.{except, has, wordPlaces}
 use Rattle.words.proofs.Changes.{Elsewhere}
 use Rattle.words.proofs.Digits.{has-none}
 use Rattle.words.proofs.Laws.{except-at}
 use Rattle.words.proofs.YesOrNo.{and-left, and-right, bool-cases, not-then}
-use Rattle.rows.specs.Numbers.{input}
+use Rattle.rows.specs.Numbers.{connectionPlaces, input}
 use Rattle.rows.specs.declared.Connection.{Connection}
 use Rattle.tables.specs.Tables.{Table, connectionAt, inUse, isConnection, isInput, owns}
 
@@ -37,7 +37,7 @@ unfolding inUse
 none-used place places = rw (has-none place) (and-false (ltb place places))
 
 -- a word that agrees elsewhere
-pub in-use-elsewhere : {word used p : ℕ} → Elsewhere word used p → (n places : ℕ) → places ≤ 64 → n ≢ p → inUse word n places ≡ inUse used n places
+pub in-use-elsewhere : {word used p : ℕ} → Elsewhere word used p → (n places : ℕ) → places ≤ wordPlaces → n ≢ p → inUse word n places ≡ inUse used n places
 unfolding inUse
 in-use-elsewhere {word} {used} else n places fits apart =
     bool-cases (ltb n places)
@@ -46,7 +46,7 @@ in-use-elsewhere {word} {used} else n places fits apart =
     (λ e. rw e)
 
 -- some places less
-pub in-use-except : (used gone n places : ℕ) → places ≤ 64 → inUse (except used gone) n places ≡ cond (has gone n) false (inUse used n places)
+pub in-use-except : (used gone n places : ℕ) → places ≤ wordPlaces → inUse (except used gone) n places ≡ cond (has gone n) false (inUse used n places)
 unfolding inUse
 in-use-except used gone n places fits =
     bool-cases (ltb n places)

@@ -9,7 +9,7 @@ use lib.Dec.{eqb, ltb}
 use lib.Pow.{pow-mono}
 use borrow.Author.Tests.{eq-eqb, le-ltb, lt-ltb, ne-eqb}
 use Rattle.words.specs.Places.{each, foldTo, wordOf}
-use Rattle.words.specs.Words.{has, with}
+use Rattle.words.specs.Words.{has, with, wordPlaces}
 use Rattle.words.proofs.Laws.{has-with, has-wordOf, with-lt, word-ext, wordOf-lt}
 use Rattle.words.proofs.Walk.{each-and}
 
@@ -26,15 +26,15 @@ has-added f n i e = elim (decLt i n) [ yes l ↦ below l | no k ↦ elim (ℕ-di
     above : n < i → ((ltb i n && f i) || eqb i n) ≡ (ltb i (suc n) && f i)
     above l = simp (le-ltb i n (omega arith), le-ltb i (suc n) l, ne-eqb i n (λ q. omega arith))
 
-with-next : (f : ℕ → Bool) (n : ℕ) → n < 64 → f n ≡ true → with (wordOf f n) n ≡ wordOf f (suc n)
+with-next : (f : ℕ → Bool) (n : ℕ) → n < wordPlaces → f n ≡ true → with (wordOf f n) n ≡ wordOf f (suc n)
 with-next f n l e =
     word-ext
     (with (wordOf f n) n)
     (wordOf f (suc n))
     (with-lt (wordOf f n) n)
-    (omega (arith, wordOf-lt f (suc n), pow-mono {i = suc n} {j = 64} l))
+    (omega (arith, wordOf-lt f (suc n), pow-mono {i = suc n} {j = wordPlaces} l))
     (λ i k. has-with (wordOf f n) n i
-    ∙ ap₂ (λ (s t : Bool). s && (t || eqb i n)) (lt-ltb i 64 k) (has-wordOf f n i)
+    ∙ ap₂ (λ (s t : Bool). s && (t || eqb i n)) (lt-ltb i wordPlaces k) (has-wordOf f n i)
     ∙ has-added f n i e
     ∙ sym (has-wordOf f (suc n) i))
 
@@ -43,7 +43,7 @@ unfolding wordOf
 without-next f n e = rw e (omega arith)
 
 -- every place below n that passes is joined to the word in turn
-pub each-with : (n : ℕ) (test : ℕ → Bool) → n ≤ 64 → each n test (λ p w. with w p) 0 ≡ wordOf test n
+pub each-with : (n : ℕ) (test : ℕ → Bool) → n ≤ wordPlaces → each n test (λ p w. with w p) 0 ≡ wordOf test n
 unfolding each foldTo wordOf
 each-with zero test l = refl
 each-with (suc n) test l = go (test n) refl (each-with n test (omega arith))
@@ -57,6 +57,6 @@ abbrev pub gathered : (ℕ → Bool) → ℕ → ℕ → ℕ
 gathered passes place word = cond (passes place) (with word place) word
 
 -- such a loop over the places of a word builds the word of those that pass
-pub gathered-all : (n used : ℕ) (counts passes : ℕ → Bool) → n ≤ 64 → ((i : ℕ) → i < n → counts i ≡ (has used i && passes i)) → each n (has used) (gathered passes) 0 ≡ wordOf counts n
+pub gathered-all : (n used : ℕ) (counts passes : ℕ → Bool) → n ≤ wordPlaces → ((i : ℕ) → i < n → counts i ≡ (has used i && passes i)) → each n (has used) (gathered passes) 0 ≡ wordOf counts n
 gathered-all n used counts passes fits split =
     sym (each-and n (λ place word. with word place) 0 counts (has used) passes split) ∙ each-with n counts fits

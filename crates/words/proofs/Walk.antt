@@ -7,7 +7,7 @@ use Prim.Native.Nat.{_<_, _≤_, suc, zero, ℕ}
 use native.Mathlib.Nat.{eq-or-lt-of-le, le-of-suc-le-suc, le-refl, not-suc-le-zero}
 use native.Mathlib.Omega.{arith}
 use Rattle.words.specs.Places.{each, foldTo}
-use Rattle.words.specs.Words.{count, has, lowest, without}
+use Rattle.words.specs.Words.{count, has, lowest, without, wordPlaces}
 use Rattle.words.proofs.Laws.{count-without, lowest-below, lowest-has, without-other, without-same}
 use Rattle.words.proofs.YesOrNo.{cond-same}
 
@@ -65,7 +65,7 @@ module _ {B : Type 0} where
 
   -- ---- the loop as the code has it: p is the lowest place of what is left, w, and x what was reached; t is the whole
 
-  each-next : (n : ℕ) (f : ℕ → B → B) (w : ℕ) (x : B) → n ≤ 64 → lowest w < n → each n (has (without w (lowest w))) f (f (lowest w) x) ≡ each n (has w) f x
+  each-next : (n : ℕ) (f : ℕ → B → B) (w : ℕ) (x : B) → n ≤ wordPlaces → lowest w < n → each n (has (without w (lowest w))) f (f (lowest w) x) ≡ each n (has w) f x
   unfolding each
   each-next n f w x m l =
       fold-lowest
@@ -82,7 +82,7 @@ module _ {B : Type 0} where
       l
 
   -- one turn: the step at the lowest place, and on without it
-  pub each-turn : (n : ℕ) (f : ℕ → B → B) (w : ℕ) (x : B) {v p : ℕ} {y t : B} → n ≤ 64 → p < n → p ≡ lowest w → y ≡ f p x → v ≡ without w p → each n (has w) f x ≡ t → each n (has v) f y ≡ t
+  pub each-turn : (n : ℕ) (f : ℕ → B → B) (w : ℕ) (x : B) {v p : ℕ} {y t : B} → n ≤ wordPlaces → p < n → p ≡ lowest w → y ≡ f p x → v ≡ without w p → each n (has w) f x ≡ t → each n (has v) f y ≡ t
   each-turn n f w x {v} {p} m l e step rest whole =
       ap₂ (λ (u : ℕ) (z : B). each n (has u) f z) (rest ∙ ap (without w) e) (step ∙ ap (λ (i : ℕ). f i x) e)
       ∙ each-next n f w x m (rw e at l)
@@ -110,7 +110,7 @@ module _ {B : Type 0} where
   each-ext n f g x a b h k = fold-ext _ _ x n (λ i y l. ap₂ (λ (t : Bool) (z : B). cond t z y) (h i l) (k i y l))
 
 -- the measure of such a loop
-pub each-falls : (w : ℕ) {v p : ℕ} → p < 64 → p ≡ lowest w → v ≡ without w p → count v < count w
+pub each-falls : (w : ℕ) {v p : ℕ} → p < wordPlaces → p ≡ lowest w → v ≡ without w p → count v < count w
 each-falls w {v} {p} l e rest =
     let fewer : count (without w (lowest w)) < count w = omega (arith, count-without w (rw e at l) (lowest-has w (rw e at l))) in
     subst (λ (u : ℕ). count u < count w) (sym (rest ∙ ap (without w) e)) fewer
