@@ -15,7 +15,7 @@ use Rattle.rows.specs.declared.Item.{Item}
 use Rattle.rows.specs.declared.Found.{Found}
 use Rattle.rows.specs.Choices.{before, preferred, ticketOf, leftOver}
 use Rattle.rows.specs.Numbers.{noConnection, noItem}
-use Rattle.tables.specs.Tables.{Table, isConnection}
+use Rattle.tables.specs.Tables.{Table, isConnection, connectionPlaces}
 use Rattle.leaving.specs.Leaving.{firstOf, ticketsInLine, handedBack, changedConnections}
 use Rattle.tables.proofs.Used.{used-below}
 use Rattle.leaving.proofs.Rows.{changed, each-rows}
@@ -83,9 +83,9 @@ handed-short rows gone slice {n} sized short = rw (← sized, lt-leb n (length s
 -- ---- the rows afterwards
 
 -- the loop over the connections in use leaves every connection's row by the rule
-pub connections-changed : (connections : Table Connection) (rule : Connection → Connection) → length (connections .rows) ≡ 32
-    → each 32 (has (connections .used)) (changed rule noConnection) (connections .rows) ≡ changedConnections connections rule
+pub connections-changed : (connections : Table Connection) (rule : Connection → Connection) → length (connections .rows) ≡ connectionPlaces
+    → each connectionPlaces (has (connections .used)) (changed rule noConnection) (connections .rows) ≡ changedConnections connections rule
 unfolding changedConnections
 connections-changed connections rule sized =
-    each-ext 32 _ _ (connections .rows) (has (connections .used)) (isConnection connections) (λ k inside. sym (used-below (connections .used) inside)) (λ k rows inside. refl)
-    ∙ each-rows 32 (isConnection connections) rule noConnection (connections .rows) sized
+    each-ext connectionPlaces _ _ (connections .rows) (has (connections .used)) (isConnection connections) (λ k inside. sym (used-below (connections .used) inside)) (λ k rows inside. refl)
+    ∙ each-rows connectionPlaces (isConnection connections) rule noConnection (connections .rows) sized

@@ -1,22 +1,19 @@
--- The checks of each call agree with the refusals that the view names. Assumes nothing.
+-- The checks of each call agree with the refusals that the view names: check by check, what the tables say is what the view says. Assumes nothing.
 use Rattle.obeys.proofs.Basis.{_∙_, _≡_, ap, refl, subst, sym, false, true, _⊎_, inl, inr, ⊎-elim, Option·none-ne-some, Option·some-injective, none, List, _<_, _≤_, ℕ, arith, eqb, ltb, length, eq-eqb, leb-false, leb-true}
 use Rattle.obeys.proofs.Basis.{ltb-false, ltb-true, count, has, lowestFree, count-le, free-below, free-lacks, Call, by, sweep, isOpen, Strong, Weak, AttachInput, AttachOutput, Channel, Consume, ConsumeUntil, Detach, End}
 use Rattle.obeys.proofs.Basis.{Get, NewThread, Put, Set, State, Which, Earliest, Latest, Named, inward, never, outward, Found, At, Nothing, true-not-false, placeOf, state, connectionAt, inUse, isConnection, isInput}
 use Rattle.obeys.proofs.Basis.{isLiving, used-below, itemsBelow, channel-exists, checks, connection-goes, connection-owned, isFound, item-fits, item-found, item-open, place-free, slice-long, soughtBy, thread-lives}
 use Rattle.obeys.proofs.Basis.{time-visible, timestamp-absent, which-given, connectionsOf, itemsOf, threadsOf, strongBound, visibleTime, weakBound, Desk, Connection, FreeChannel, FreeConnection, FreeThread, Listed, Lowest}
 use Rattle.obeys.proofs.Basis.{desk-full, inputFrom, named-never, no-channel, no-input, no-output, no-thread, not-its-own, not-open, nothing-unseen, outputTo, rule, slice-short, stateOn, table-full, taken, too-early}
-use Rattle.obeys.proofs.Basis.{unused, DeskInOrder, viewOf, needs, refusal, refuse}
+use Rattle.obeys.proofs.Basis.{unused, DeskInOrder, viewOf, needs, refusal, refuse, itemPlaces, TakesUnseen, is-open, in-use, in-use-has, owned-used, used-reads, found-holds}
 use Rattle.rules.specs.Rules as Rules
 use Rattle.rules.proofs.OneList.{listed-one}
-use Rattle.obeys.proofs.Chosen.{place-found}
-use Rattle.obeys.proofs.Words.{in-use, in-use-has}
 use Rattle.obeys.proofs.Bounds.{visible, weak, strong}
 use Rattle.obeys.proofs.Found.{takes, takes-none}
-use Rattle.obeys.proofs.Folds.{smallest-one}
-use Rattle.obeys.proofs.Seen.{is-open}
 use Rattle.obeys.proofs.Listed.{below, listed, present, present-listed}
-use Rattle.obeys.proofs.Lookup.{lives-view, dead-view, unused-view, owned-view, view-owned, input-view, holds-of, item-view, no-item-view, owned-used, used-reads, writes-view, used-not-free}
+use Rattle.obeys.proofs.Lookup.{lives-view, dead-view, unused-view, owned-view, view-owned, input-view, item-view, no-item-view, writes-view, used-not-free}
 use Rattle.obeys.proofs.Frame.{Matches, Agree, plain, check}
+use Rattle.rules.proofs.Laws.{smallest-one}
 
 -- ---- free places
 
@@ -81,14 +78,14 @@ module _ (d : Desk) (o : DeskInOrder d) where
   agree-output : (connection : ℕ) → isConnection (connectionsOf d) connection ≡ true → Matches (connection-goes d connection outward) (no-output (viewOf d) connection)
   agree-output connection used =
       plain _ 4 _
-      (λ e. ⊎-elim (λ reads. ap outputTo (input-view d connection (used-reads d connection used reads))) (λ writes. absurd (true-not-false writes e)) (other-way connection used))
+      (λ e. ⊎-elim (λ reads. ap outputTo (input-view d connection (used-reads (connectionsOf d) connection used reads))) (λ writes. absurd (true-not-false writes e)) (other-way connection used))
       (λ e case. Option·none-ne-some _ (sym case ∙ ap outputTo (writes-view d connection used e)))
 
   pub agree-input : (connection : ℕ) → isConnection (connectionsOf d) connection ≡ true → Matches (connection-goes d connection inward) (no-input (viewOf d) connection)
   agree-input connection used =
       plain _ 4 _
       (λ e. ⊎-elim (λ reads. absurd (true-not-false reads e)) (λ writes. ap inputFrom (writes-view d connection used writes)) (other-way connection used))
-      (λ e case. Option·none-ne-some _ (sym case ∙ ap inputFrom (input-view d connection (used-reads d connection used e))))
+      (λ e case. Option·none-ne-some _ (sym case ∙ ap inputFrom (input-view d connection (used-reads (connectionsOf d) connection used e))))
 
   -- 5 is one of these
   pub agree-below : (code number bound : ℕ) → Matches (needs (ltb number bound) (refusal code)) (refuse code (bound ≤ number))
@@ -113,10 +110,10 @@ module _ (d : Desk) (o : DeskInOrder d) where
       let writes = ap outputTo (writes-view d connection used goes) in
       let place : ℕ = placeOf (itemsOf d) channel timestamp in
       plain _ 7 _
-      (λ e. (channel, _, writes, item-view d o (holds-of d o place channel timestamp (place-found (itemsOf d) channel timestamp (leb-false 64 place e)))))
+      (λ e. (channel, _, writes, item-view d o (found-holds (itemsOf d) channel timestamp (leb-false itemPlaces place e))))
       (λ e (to, ticket, into, there).
       let same : channel ≡ to = Option·some-injective channel to (sym writes ∙ into) in
-      Option·none-ne-some ticket (sym (no-item-view d o channel timestamp (leb-true 64 place e)) ∙ rw same there))
+      Option·none-ne-some ticket (sym (no-item-view d channel timestamp (leb-true itemPlaces place e)) ∙ rw same there))
 
   agree-fits : Matches (item-fits d) (desk-full (viewOf d))
   unfolding count
@@ -136,7 +133,7 @@ module _ (d : Desk) (o : DeskInOrder d) where
       (λ e case. go (soughtBy d connection which) refl e case)
     where
       go : (found : Found) → soughtBy d connection which ≡ found → isFound found ≡ true
-          → ((timestamp : ℕ) → Rattle.rules.specs.Rules.TakesUnseen (viewOf d) connection which timestamp → ⊥) → ⊥
+          → ((timestamp : ℕ) → TakesUnseen (viewOf d) connection which timestamp → ⊥) → ⊥
       go (At place item) e found case = case (item .timestamp) (takes d o connection reads which place item e)
       go Nothing e found case = true-not-false found refl
 

@@ -1,12 +1,10 @@
--- Visible time and the two bounds of the desk are those of its view. Assumes nothing.
-use Rattle.obeys.proofs.Basis.{_∙_, _≡_, ap, subst, sym, Bool, _&&_, true, _⊎_, ⊎-elim, some, _≤_, ℕ, arith, has, isOpen, isPending, Bound, Strong, Weak, Open, Unseen, never, Row, and-both, and-left, and-right, bool-cases}
-use Rattle.obeys.proofs.Basis.{isOpenAt, isPendingAt, connectionAt, isConnection, isInput, isLiving, itemAt, owns, readsFor, threadAt, isAwaited, leastAwaited, leastKeep, leastOpen, leastTime, openTime, boundOf}
-use Rattle.obeys.proofs.Basis.{connectionsOf, itemsOf, threadsOf, strongBound, visibleTime, weakBound, Desk, used-inside, BoundOf, Connection, IsTime, KeepTime, Smallest, StrongBound, VisibleTime, WeakBound, owner, stateOn}
-use Rattle.obeys.proofs.Basis.{DeskInOrder, viewOf}
-use Rattle.obeys.proofs.Words.{in-use-has}
-use Rattle.obeys.proofs.Folds.{smallest-as, smallest-single, smallest-either, smallest-of, some-true, some-at}
-use Rattle.obeys.proofs.Lookup.{lives-view, view-lives, input-view, by-input, owned-view, view-owned}
-use Rattle.obeys.proofs.Seen.{is-open, is-pending, lies-there, seen-at, at-seen, state-view, pending-reads}
+-- Visible time and the two bounds of the desk are those of its view: the times over which they are taken are the same ones. Assumes nothing.
+use Rattle.obeys.proofs.Basis.{_∙_, _≡_, ap, subst, sym, Bool, _&&_, true, _⊎_, ⊎-elim, some, ℕ, has, isOpen, isPending, Bound, Strong, Weak, Open, Unseen, Row, isOpenAt, isPendingAt, isInput, owns, readsFor, connectionAt}
+use Rattle.obeys.proofs.Basis.{isConnection, isLiving, itemAt, threadAt, isAwaited, leastAwaited, leastKeep, leastOpen, leastTime, openTime, boundOf, connectionsOf, itemsOf, threadsOf, strongBound, visibleTime, weakBound}
+use Rattle.obeys.proofs.Basis.{Desk, BoundOf, Connection, IsTime, KeepTime, Smallest, StrongBound, VisibleTime, WeakBound, owner, stateOn, DeskInOrder, viewOf, is-open, is-pending, and-left, and-right, and-both, in-use-has}
+use Rattle.obeys.proofs.Basis.{used-inside, input-used, some-true, some-at, lies-there, timestamp-top, seen-at, at-seen}
+use Rattle.obeys.proofs.Lookup.{by-input, input-view, lives-view, owned-view, pending-reads, state-view, view-lives, view-owned}
+use Rattle.obeys.proofs.Smallest.{smallest-as, smallest-either, smallest-of, smallest-single}
 
 module _ (d : Desk) (o : DeskInOrder d) where
   abbrev row : ℕ → Row
@@ -14,14 +12,6 @@ module _ (d : Desk) (o : DeskInOrder d) where
 
   abbrev stamp : ℕ → ℕ
   stamp place = itemAt (itemsOf d) place .timestamp
-
-  stamp-top : (place : ℕ) → stamp place ≤ never
-  stamp-top place =
-      bool-cases (has (d .present) place) (λ there. omega (arith, o .timestamps place there)) (λ free. rw (o .items .free place free) (omega arith))
-
-  input-used : (connection : ℕ) → isInput (connectionsOf d) connection ≡ true → isConnection (connectionsOf d) connection ≡ true
-  unfolding isInput
-  input-used connection reads = and-left _ _ reads
 
   -- ---- virtual times
 
@@ -42,7 +32,7 @@ module _ (d : Desk) (o : DeskInOrder d) where
   unfolding readsFor owns
   reads-for thread connection e =
       let reads = and-left _ _ e in
-      (reads, owned-view d connection thread (and-both (input-used connection reads) (and-right (isInput (connectionsOf d) connection) _ e)))
+      (reads, owned-view d connection thread (and-both (input-used (connectionsOf d) connection reads) (and-right (isInput (connectionsOf d) connection) _ e)))
 
   for-reads : (thread connection : ℕ) → isInput (connectionsOf d) connection ≡ true → owner (viewOf d .connection connection) ≡ some thread
       → readsFor (connectionsOf d) thread connection ≡ true
@@ -55,12 +45,12 @@ module _ (d : Desk) (o : DeskInOrder d) where
   open-is thread =
       smallest-as
       (λ time (k, inside, its, (place, within, opened, is)). (let (reads, owned) = reads-for thread k its in
-      (k, owned, state-view d o k time reads ∙ is-open _ (seen-at d o isOpen (row k) place time opened is))))
-      (λ time (k, owned, opened). (let reads = pending-reads d o k time (ap isPending opened) in
-      let now = sym (state-view d o k time reads) ∙ opened in
-      (k, used-inside (d .attached) (input-used k reads), for-reads thread k reads owned, at-seen d o isOpen (row k) time (ap isPending now) (ap isOpen now))))
+      (k, owned, state-view d k time reads ∙ is-open _ (seen-at (o .items) (row k) isOpen place time opened is))))
+      (λ time (k, owned, opened). (let reads = pending-reads d k time (ap isPending opened) in
+      let now = sym (state-view d k time reads) ∙ opened in
+      (k, used-inside (d .attached) (input-used (connectionsOf d) k reads), for-reads thread k reads owned, at-seen (o .items) (row k) isOpen time (ap isPending now) (ap isOpen now))))
       (smallest-of (readsFor (connectionsOf d) thread) (λ k. openTime (itemsOf d) (row k)) _
-      (λ k its. smallest-of (isOpenAt (itemsOf d) (row k)) stamp (λ place time. stamp place ≡ time) (λ place opened. smallest-single (stamp-top place)) 64) 32)
+      (λ k its. smallest-of (isOpenAt (itemsOf d) (row k)) stamp (λ place time. stamp place ≡ time) (λ place opened. smallest-single (timestamp-top (o .items) place)) 64) 32)
 
   pub visible : (thread : ℕ) → isLiving (threadsOf d) thread ≡ true → VisibleTime (viewOf d) thread (visibleTime d thread)
   unfolding visibleTime
@@ -78,10 +68,10 @@ module _ (d : Desk) (o : DeskInOrder d) where
       (λ time (k, inside, reads, is). (k, subst (λ (c : Connection). KeepTime c time) (sym (input-view d k reads)) (sym is)))
       (λ time (k, keeps). (let at : (c : Connection) → viewOf d .connection k ≡ c → KeepTime c time = λ c e. subst (λ (c : Connection). KeepTime c time) e keeps in
       by-input d k
-      (λ reads. (k, used-inside (d .attached) (input-used k reads), reads, sym (at _ (input-view d k reads))))
+      (λ reads. (k, used-inside (d .attached) (input-used (connectionsOf d) k reads), reads, sym (at _ (input-view d k reads))))
       (⊎-elim (λ e. absurd (at _ e)) (λ e. absurd (at _ e)))))
       (smallest-of (isInput (connectionsOf d)) (λ k. row k .mark) (λ k time. row k .mark ≡ time)
-      (λ k reads. smallest-single (o .attached k (in-use-has (d .attached) k 32 (input-used k reads)) .mark)) 32)
+      (λ k reads. smallest-single (o .attached k (in-use-has (d .attached) k 32 (input-used (connectionsOf d) k reads)) .mark)) 32)
 
   pub weak : WeakBound (viewOf d) (weakBound d)
   unfolding weakBound
@@ -99,15 +89,15 @@ module _ (d : Desk) (o : DeskInOrder d) where
       smallest-as
       (λ time (place, inside, awaited, is). (let (k, within, found) = some-at (awaits place) 32 (and-right (has (d .present) place) _ awaited) in
       let reads = and-left _ _ found in
-      let pending = seen-at d o isPending (row k) place time (and-right (isInput (connectionsOf d) k) _ found) is in
-      (k, is-pending _ (ap isPending (state-view d o k time reads) ∙ pending))))
+      let pending = seen-at (o .items) (row k) isPending place time (and-right (isInput (connectionsOf d) k) _ found) is in
+      (k, is-pending _ (ap isPending (state-view d k time reads) ∙ pending))))
       (λ time (k, waits). (let pending : isPending (stateOn (viewOf d .connection k) time) ≡ true = ⊎-elim (λ e. ap isPending e) (λ e. ap isPending e) waits in
-      let reads = pending-reads d o k time pending in
-      let now = ap isPending (sym (state-view d o k time reads)) ∙ pending in
-      let (place, inside, passes, is) = at-seen d o isPending (row k) time now now in
+      let reads = pending-reads d k time pending in
+      let now = ap isPending (sym (state-view d k time reads)) ∙ pending in
+      let (place, inside, passes, is) = at-seen (o .items) (row k) isPending time now now in
       let (there, beside) = lies-there (itemsOf d) (row k) place (and-left _ _ passes) in
-      (place, inside, and-both there (some-true (awaits place) 32 k (used-inside (d .attached) (input-used k reads)) (and-both reads passes)), is)))
-      (smallest-of (isAwaited (connectionsOf d) (itemsOf d)) stamp (λ place time. stamp place ≡ time) (λ place awaited. smallest-single (stamp-top place)) 64)
+      (place, inside, and-both there (some-true (awaits place) 32 k (used-inside (d .attached) (input-used (connectionsOf d) k reads)) (and-both reads passes)), is)))
+      (smallest-of (isAwaited (connectionsOf d) (itemsOf d)) stamp (λ place time. stamp place ≡ time) (λ place awaited. smallest-single (timestamp-top (o .items) place)) 64)
 
   pub strong : StrongBound (viewOf d) (strongBound d)
   unfolding strongBound

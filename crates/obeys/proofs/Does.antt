@@ -1,27 +1,25 @@
--- Each accepted call does what the view says, and so does each call. Assumes nothing.
+-- Each accepted call does what the view says, by the law of its effect, and so does each call, by the agreement of its checks. Assumes nothing.
 use Rattle.obeys.proofs.Basis.{_∙_, _≡_, ap, refl, sym, false, true, some, List, [], _∷_, _<_, suc, ℕ, arith, eqb, leb, ltb, length, eqb-true, leb-true, ltb-true, count, with-same, without-same, Call, Passable, by, sliceOf}
 use Rattle.obeys.proofs.Basis.{sweep, isOpen, isPending, AttachInput, AttachOutput, Channel, Consume, ConsumeUntil, Detach, End, Get, NewThread, Put, Set, Consumed, Open, Which, decided, Told, foundTold, inward, stateOf}
 use Rattle.obeys.proofs.Basis.{Row, Found, At, Nothing, Item, Passed, and-left, and-right, bool-cases, true-not-false, isUnseenAt, lies, placeOf, state, stateAt, connectionAt, isConnection, itemAt, owns, handedBack}
 use Rattle.obeys.proofs.Basis.{itemsBelow, adopted, attachedAs, boundOf, checks, effect, freeChannel, freeConnection, freeThread, isFound, becomesOpen, slice-long, sliceAfter, soughtBy, told, connectionsOf, itemsOf}
 use Rattle.obeys.proofs.Basis.{visibleTime, Desk, fewer-free, owned-below, used-inside, BoundOf, Connection, View, consumedBelow, done, inputFrom, outputTo, rule, seenAs, sweepRow, unused, DeskDoes, DeskInOrder}
-use Rattle.obeys.proofs.Basis.{connectionOf, viewOf}
+use Rattle.obeys.proofs.Basis.{connectionOf, viewOf, never, swept, at, is-open, is-unseen, same-elsewhere, with-elsewhere, without-elsewhere, unconsumed, in-use-has, owned-used, used-reads, sought-found, Holds, found-holds}
+use Rattle.obeys.proofs.Basis.{lies-there}
 use native.Mathlib.Numerals.{add-one}
 use Rattle.rules.specs.Rules.{withConnection}
 use Rattle.desk.specs.Calls as Calls
-use Rattle.obeys.proofs.Order.{in-order-effect, every-desk-in-order}
+use Rattle.obeys.proofs.Order.{every-desk-in-order}
 use Rattle.obeys.proofs.Frame.{does}
-use Rattle.obeys.proofs.Lookup.{used-view, input-view, Holds, item-view, holds-of, owned-used, used-reads, writes-view}
+use Rattle.obeys.proofs.Lookup.{used-view, input-view, item-view, writes-view}
 use Rattle.obeys.proofs.Bounds.{visible, bound-is}
 use Rattle.obeys.proofs.Rows.{row-got, row-consumed, row-raised, row-connected}
 use Rattle.obeys.proofs.Stock.{view-stored}
 use Rattle.obeys.proofs.Sweep.{view-swept}
 use Rattle.obeys.proofs.Found.{takes}
-use Rattle.obeys.proofs.Seen.{is-open, is-unseen, waits, lies-there}
-use Rattle.obeys.proofs.Chosen.{sought-found, place-found}
 use Rattle.obeys.proofs.Listed.{below, listed}
 use Rattle.obeys.proofs.Agreed.{agree, threads-free, channels-free, connections-free, lowest-free}
 use Rattle.obeys.proofs.Effects.{view-channel, view-thread, view-connection, view-ended}
-use Rattle.obeys.proofs.Words.{same-elsewhere, with-elsewhere, without-elsewhere, in-use-has}
 
 -- the same answer, and the view that it says
 quietly : {n m : ℕ} {slice : List ℕ} {v w : View} → v ≡ w → done n m v slice ≡ done n m w slice
@@ -51,19 +49,19 @@ module _ (d : Desk) (o : DeskInOrder d) where
   unfolding isUnseenAt
   got-accepts thread connection which owned goes (At place item) e found =
       let row : Row = connectionAt (connectionsOf d) connection in
-      let reads = used-reads d connection (owned-used d connection thread owned) goes in
+      let reads = used-reads (connectionsOf d) connection (owned-used (connectionsOf d) connection thread owned) goes in
       let s = sought-found (itemsOf d) row which place item e in
       let stamp : itemAt (itemsOf d) place .timestamp ≡ item .timestamp = sym (ap (λ (i : Item). i .timestamp) (s .is)) in
       let (there, beside) = lies-there (itemsOf d) row place (and-left _ _ (s .unseen)) in
-      let h : Holds d o place (row .channel) (item .timestamp) = record { inside = s .inside; there = there; channel-is = beside; timestamp-is = stamp } in
-      let w = waits row _ place (ap isPending (is-unseen (stateAt (itemsOf d) row place) (and-right (lies (itemsOf d) row place) _ (s .unseen)))) in (
+      let h : Holds (itemsOf d) (row .channel) (item .timestamp) place = record { inside = s .inside; there = there; channel-is = beside; timestamp-is = stamp } in
+      let w = unconsumed row _ place (ap isPending (is-unseen (stateAt (itemsOf d) row place) (and-right (lies (itemsOf d) row place) _ (s .unseen)))) in (
         row .channel,
         item .timestamp,
         item .ticket,
         ap inputFrom (input-view d connection reads),
         takes d o connection reads which place item e,
         item-view d o h ∙ ap some (sym (ap (λ (i : Item). i .ticket) (s .is))),
-        quietly (by-row connection (owned-used d connection thread owned) _ (seenAs Open (item .timestamp))
+        quietly (by-row connection (owned-used (connectionsOf d) connection thread owned) _ (seenAs Open (item .timestamp))
             (row-got d o row h (eqb-true _ inward goes) (omega (arith, w .mark)) (w .kept))),
       )
   got-accepts thread connection which owned goes Nothing e found = absurd (true-not-false found refl)
@@ -76,9 +74,9 @@ module _ (d : Desk) (o : DeskInOrder d) where
   consumed-view thread connection timestamp owned goes opens =
       let row : Row = connectionAt (connectionsOf d) connection in
       let place : ℕ = placeOf (itemsOf d) (row .channel) timestamp in
-      let w = waits row timestamp place (ap isPending (is-open (stateOf row timestamp place) opens)) in
-      let h = holds-of d o place (row .channel) timestamp (place-found (itemsOf d) (row .channel) timestamp (w .inside)) in
-      by-row connection (owned-used d connection thread owned) _ (seenAs Consumed timestamp) (row-consumed d o row h (eqb-true _ inward goes) (w .mark))
+      let w = unconsumed row timestamp place (ap isPending (is-open (stateOf row timestamp place) opens)) in
+      let h = found-holds (itemsOf d) (row .channel) timestamp (w .inside) in
+      by-row connection (owned-used (connectionsOf d) connection thread owned) _ (seenAs Consumed timestamp) (row-consumed d o row h (eqb-true _ inward goes) (w .mark))
 
   -- ---- sweeps
 
@@ -115,14 +113,14 @@ module _ (d : Desk) (o : DeskInOrder d) where
   accepts (by thread (Put connection timestamp ticket)) fits p =
       let item : Item = record { channel = connectionAt (connectionsOf d) connection .channel; timestamp = timestamp; ticket = ticket } in (
         connectionAt (connectionsOf d) connection .channel,
-        ap outputTo (writes-view d connection (owned-used d connection thread (p .held 3)) (p .held 4)),
-        quietly (view-stored d o item (in-order-effect d o (by thread (Put connection timestamp ticket)) fits p)
-            (fewer-free (d .present) (ltb-true (count (d .present)) 64 (p .held 8))) (leb-true 64 _ (p .held 7))),
+        ap outputTo (writes-view d connection (owned-used (connectionsOf d) connection thread (p .held 3)) (p .held 4)),
+        quietly (view-stored d o item (fewer-free (d .present) (ltb-true (count (d .present)) 64 (p .held 8)))
+            (ltb-true timestamp never (p .held 5)) (leb-true 64 _ (p .held 7))),
       )
   accepts (by thread (Get connection which)) fits p = got-accepts thread connection which (p .held 3) (p .held 4) (soughtBy d connection which) refl (p .held 10)
   accepts (by thread (Consume connection timestamp)) fits p = quietly (consumed-view thread connection timestamp (p .held 3) (p .held 4) (p .held 11))
   accepts (by thread (ConsumeUntil connection timestamp)) fits p =
-      quietly (by-row connection (owned-used d connection thread (p .held 3)) _ (consumedBelow (suc timestamp))
+      quietly (by-row connection (owned-used (connectionsOf d) connection thread (p .held 3)) _ (consumedBelow (suc timestamp))
       (rw (add-one timestamp) (row-raised (itemsOf d) (connectionAt (connectionsOf d) connection) (suc timestamp) (eqb-true _ inward (p .held 4)))))
   accepts (sweep bound slice) fits p = sweeps (BoundOf (viewOf d) bound) (boundOf d bound) slice (bound-is d o bound) (p .held 12)
 

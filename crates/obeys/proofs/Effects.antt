@@ -1,25 +1,14 @@
 -- The view after each effect that changes one thread, one channel or one connection, by what a table then says of each number. Assumes nothing.
-use Rattle.obeys.proofs.Basis.{_∙_, _≡_, ap, refl, sym, and-true, cond, false, true, _≢_, Option, none, some, List, _<_, _≤_, ℕ, ℕ-discrete, arith, eqb, ltb, getD, length, set, getD-set-other, getD-set-same, eq-eqb}
-use Rattle.obeys.proofs.Basis.{ltb-true, ne-eqb, has, except, with, has-wordOf-in, except-at, with-same, without-same, inward, noConnection, noThread, Row, Item, Thread, bool-cases, Table, connectionAt, inUse, isConnection}
-use Rattle.obeys.proofs.Basis.{owns, used-below, freedConnections, ownedBy, ended, freeChannel, connectionsOf, itemsOf, withChannels, withThreads, Desk, used-inside, Connection, at, freedFrom, unused, withChannel}
-use Rattle.obeys.proofs.Basis.{withThread, DeskInOrder, connectionOf, viewOf}
+use Rattle.obeys.proofs.Basis.{_∙_, _≡_, ap, refl, sym, cond, false, true, Option, none, some, List, _<_, _≤_, ℕ, ℕ-discrete, arith, eqb, getD, length, set, getD-set-other, getD-set-same, eq-eqb, ne-eqb, has, with, inward}
+use Rattle.obeys.proofs.Basis.{noConnection, noThread, Row, Item, Thread, inUse, owns, Table, connectionAt, isConnection, freedConnections, ownedBy, ended, freeChannel, connectionsOf, itemsOf, withChannels, withThreads}
+use Rattle.obeys.proofs.Basis.{Desk, Connection, at, freedFrom, unused, withChannel, withThread, DeskInOrder, viewOf, connectionOf, bool-cases, has-wordOf-in, with-same, without-same, Elsewhere, with-elsewhere}
+use Rattle.obeys.proofs.Basis.{without-elsewhere, except-stays, used-below, in-use, in-use-has, used-inside, in-use-elsewhere, in-use-except, thinned-row}
 use Rattle.rules.specs.Rules.{withConnection, withConnections}
 use Rattle.desk.specs.Desk as Desks
-use Rattle.obeys.proofs.Words.{in-use, Elsewhere, with-elsewhere, not-then, without-elsewhere, except-stays, in-use-has}
 use Rattle.obeys.proofs.Frame.{view-ext}
-use Rattle.obeys.proofs.Lookup.{used-view, unused-view}
-use Rattle.obeys.proofs.Order.Tables.{thinned-row}
+use Rattle.obeys.proofs.Lookup.{unused-view, used-view}
 
 -- ---- what a table says of each number
-
--- a word that agrees elsewhere
-in-use-elsewhere : {word used p : ℕ} → Elsewhere word used p → (n places : ℕ) → places ≤ 64 → n ≢ p → inUse word n places ≡ inUse used n places
-unfolding inUse
-in-use-elsewhere {word} {used} else n places fits apart =
-    bool-cases (ltb n places)
-    (λ e. let below : n < places = ltb-true n places e in
-    rw e (bool-cases (has used n) (λ held. else .stays n (omega arith) apart held ∙ sym held) (λ free. not-then (else .was n apart) free ∙ sym free)))
-    (λ e. rw e)
 
 in-use-with : (used p n places : ℕ) → p < places → places ≤ 64 → inUse (with used p) n places ≡ at (λ i. inUse used i places) p true n
 in-use-with used p n places inside fits =
@@ -27,14 +16,6 @@ in-use-with used p n places inside fits =
       | yes same ↦ rw (same, eq-eqb p p refl) (in-use (with used p) p places inside (with-same used (omega arith)))
       | no apart ↦ rw (ne-eqb n p apart) (in-use-elsewhere (with-elsewhere used p) n places fits apart)
     ]
-
-in-use-except : (used gone n places : ℕ) → places ≤ 64 → inUse (except used gone) n places ≡ cond (has gone n) false (inUse used n places)
-unfolding inUse
-in-use-except used gone n places fits =
-    bool-cases (ltb n places)
-    (λ e. let below : n < places = ltb-true n places e in
-    rw (except-at used gone {i = n} (omega arith)) (bool-cases (has gone n) (λ g. rw (g, e) (bool-cases (has used n) (λ q. rw q) (λ q. rw q))) (λ g. rw (g, e) (and-true (has used n)))))
-    (λ e. rw e (bool-cases (has gone n) (λ g. rw g) (λ g. rw g)))
 
 module _ {A B : Type 0} (f : A → B) (nothing : B) (zeros : A) (places : ℕ) where
   abbrev look : ℕ → List A → ℕ → B

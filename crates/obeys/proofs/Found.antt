@@ -1,8 +1,7 @@
--- What a get finds is what the view says that it takes. Assumes nothing.
-use Rattle.obeys.proofs.Basis.{_∙_, _≡_, ap, refl, sym, true, _<_, ℕ, arith, eq-eqb, eqb-true, ltb-false, isPending, isUnseen, Unseen, Which, Earliest, Latest, Named, Row, At, Nothing, Item, isWanted, isUnseenAt}
-use Rattle.obeys.proofs.Basis.{connectionAt, isInput, itemAt, soughtBy, connectionsOf, itemsOf, Desk, TakesUnseen, stateOn, DeskInOrder, viewOf}
-use Rattle.obeys.proofs.Seen.{seen-at, at-seen, state-view, is-unseen}
-use Rattle.obeys.proofs.Chosen.{Sought, sought-found, sought-some}
+-- What a get finds is what the view says that it takes: a timestamp that fits has its place, and the best place has the timestamp. Assumes nothing.
+use Rattle.obeys.proofs.Basis.{_∙_, _≡_, ap, refl, sym, true, _<_, ℕ, arith, eq-eqb, eqb-true, ltb-false, isPending, isUnseen, Unseen, Which, Earliest, Latest, Named, Row, At, Nothing, Item, isWanted, isUnseenAt, isInput}
+use Rattle.obeys.proofs.Basis.{connectionAt, itemAt, itemPlaces, soughtBy, connectionsOf, itemsOf, Desk, TakesUnseen, stateOn, DeskInOrder, viewOf, is-unseen, Sought, sought-found, sought-some, seen-at, at-seen}
+use Rattle.obeys.proofs.Lookup.{state-view}
 
 module _ (d : Desk) (o : DeskInOrder d) (connection : ℕ) (reads : isInput (connectionsOf d) connection ≡ true) where
   abbrev row : Row
@@ -13,17 +12,17 @@ module _ (d : Desk) (o : DeskInOrder d) (connection : ℕ) (reads : isInput (con
 
   -- a timestamp that fits has its place
   fits-place : (timestamp : ℕ) → Fits timestamp
-      → (place : ℕ) × (place < 64) × (isUnseenAt (itemsOf d) row place ≡ true) × (itemAt (itemsOf d) place .timestamp ≡ timestamp)
+      → (place : ℕ) × (place < itemPlaces) × (isUnseenAt (itemsOf d) row place ≡ true) × (itemAt (itemsOf d) place .timestamp ≡ timestamp)
   unfolding isUnseenAt
   fits-place timestamp e =
-      let now = sym (state-view d o connection timestamp reads) ∙ e in
-      at-seen d o isUnseen row timestamp (ap isPending now) (ap isUnseen now)
+      let now = sym (state-view d connection timestamp reads) ∙ e in
+      at-seen (o .items) row isUnseen timestamp (ap isPending now) (ap isUnseen now)
 
   found-fits : (which : Which) (place : ℕ) (item : Item) → Sought (itemsOf d) row which place item → Fits (item .timestamp)
   unfolding isUnseenAt
   found-fits which place item s =
-      state-view d o connection (item .timestamp) reads
-      ∙ is-unseen _ (seen-at d o isUnseen row place (item .timestamp) (s .unseen) (sym (ap (λ (i : Item). i .timestamp) (s .is))))
+      state-view d connection (item .timestamp) reads
+      ∙ is-unseen _ (seen-at (o .items) row isUnseen place (item .timestamp) (s .unseen) (sym (ap (λ (i : Item). i .timestamp) (s .is))))
 
   takes-found : (which : Which) (place : ℕ) (item : Item) → Sought (itemsOf d) row which place item → TakesUnseen (viewOf d) connection which (item .timestamp)
   takes-found Earliest place item s = (

@@ -1,6 +1,6 @@
 -- A call does what its view says where its checks agree with the refusals of the view, and its effect with what is accepted. Assumes nothing.
 use Rattle.obeys.proofs.Basis.{_≡_, ap, refl, subst, sym, Bool, cond, false, true, inl, inr, List, [], _∷_, ℕ, eqb, eqb-true, Call, sliceOf, Told, Check, decided, needs, refusal, coded, Pass, bool-cases, passed}
-use Rattle.obeys.proofs.Basis.{true-not-false, checks, effect, outcome, sliceAfter, step, told, Desk, codes, Passed, passing, Does, NoneOf, Outcome, Refusal, Refuses, View, done, refuse, rule, outcomeOf, viewOf}
+use Rattle.obeys.proofs.Basis.{true-not-false, checks, effect, outcome, sliceAfter, step, told, Desk, codes, Passed, passing, Does, NoneOf, Outcome, Refusal, Refuses, View, done, refuse, rule, outcomeOf, viewOf, answer}
 use Rattle.rows.specs.declared.Answer.{Answer}
 use Rattle.desk.specs.declared.Next.{Next}
 use Rattle.obeys.proofs.Reached.{step-accepted}

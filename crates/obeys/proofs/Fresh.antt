@@ -1,14 +1,12 @@
--- The view of a fresh desk: thread 0 at time 0, and nothing else; so a desk starts as the rules say. Assumes nothing.
+-- The view of a fresh desk: thread 0 at time 0, and nothing else, as the words of its tables have no other place; so a desk starts as the rules say.
+-- Assumes nothing.
 use Rattle.obeys.proofs.Basis.{_≡_, refl, subst, sym, and-false, false, none, ℕ, ℕ-discrete, arith, ltb, ne-eqb, has, has-from, has-none, lowest-none, isItem, placeOf, inUse, fresh, itemsOf, freshView, StartsFresh, viewOf}
+use Rattle.obeys.proofs.Basis.{none-used}
 use Rattle.rules.specs.Runs.{Start}
 use Rattle.obeys.specs.Claims.{DeskStarts}
 use Rattle.obeys.specs.Reached.{fresh-desk}
 use Rattle.obeys.proofs.Frame.{view-ext}
 use Rattle.obeys.proofs.Lookup.{dead-view, unused-view}
-
-none-used : (n places : ℕ) → inUse 0 n places ≡ false
-unfolding inUse
-none-used n places = rw (has-none n) (and-false (ltb n places))
 
 one-used : (n : ℕ) → (n ≡ 0 → ⊥) → inUse 1 n 16 ≡ false
 unfolding inUse

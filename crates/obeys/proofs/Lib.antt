@@ -1,11 +1,8 @@
 -- The desk obeys the rules.
 pub mod Basis
 pub mod Reached
-pub mod Words
-pub mod Folds
-pub mod Chosen
+pub mod Smallest
 pub mod Lookup
-pub mod Seen
 pub mod Bounds
 pub mod Order
 pub mod Frame

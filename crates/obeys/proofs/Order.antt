@@ -1,31 +1,17 @@
--- Every reached desk is in order: a start is, and each effect keeps it so. Assumes nothing.
-pub mod Tables
-pub mod Rows
+-- Every reached desk is in order: a start is, as its tables are all zeros but for one thread, and each effect keeps it so. Assumes nothing.
 pub mod Desks
-use Rattle.obeys.proofs.Basis.{_≡_, ap, refl, false, false≢true, true, inl, inr, _+_, _<_, _≤_, suc, zero, ℕ, decLt, ℕ-discrete, arith, getD, length-replicate, replicate, eqb-true, leb-true, ltb-true, has, with, has-from}
-use Rattle.obeys.proofs.Basis.{has-none, with-same, without-same, Call, Passable, by, sweep, isPending, Bound, Strong, Weak, AttachInput, AttachOutput, Channel, Consume, ConsumeUntil, Detach, End, Get, NewThread, Put, Set}
-use Rattle.obeys.proofs.Basis.{Which, inward, never, noConnection, noItem, noThread, outward, Row, Found, At, Nothing, Passed, and-left, and-right, true-not-false, isUnseenAt, lies, state, stateAt, connectionAt}
-use Rattle.obeys.proofs.Basis.{connectionPlaces, isConnection, owns, threadPlaces, adopted, attachedAs, boundOf, checks, effect, freeChannel, freeConnection, freeThread, isFound, becomesOpen, soughtBy, withConnection}
-use Rattle.obeys.proofs.Basis.{connectionsOf, fresh, itemsOf, visibleTime, Desk, fewer-free, owned-below, used-inside, ConnectionInOrder, EveryDeskInOrder, DeskInOrder, Tidy}
+use Rattle.obeys.proofs.Basis.{_≡_, ap, refl, false, false≢true, true, inl, inr, _+_, _<_, _≤_, ℕ, decLt, ℕ-discrete, arith, eqb-true, leb-true, ltb-true, has, has-from, has-none, without-same, Call, Passable, by, sweep}
+use Rattle.obeys.proofs.Basis.{isPending, Bound, Strong, Weak, AttachInput, AttachOutput, Channel, Consume, ConsumeUntil, Detach, End, Get, NewThread, Put, Set, Which, inward, never, noConnection, noItem, noThread, outward}
+use Rattle.obeys.proofs.Basis.{Row, Found, At, Nothing, Passed, and-left, and-right, true-not-false, isUnseenAt, lies, state, stateAt, connectionAt, connectionPlaces, isConnection, owns, threadPlaces, adopted, attachedAs}
+use Rattle.obeys.proofs.Basis.{boundOf, checks, effect, freeChannel, freeConnection, freeThread, isFound, becomesOpen, soughtBy, withConnection, connectionsOf, fresh, itemsOf, visibleTime, Desk, fewer-free, owned-below}
+use Rattle.obeys.proofs.Basis.{used-inside, ConnectionInOrder, EveryDeskInOrder, DeskInOrder, itemPlaces, connected, is-open, is-unseen, with-was, with-there, same-elsewhere, with-elsewhere, without-elsewhere, unconsumed}
+use Rattle.obeys.proofs.Basis.{open-fact, in-use-has, sought-found, all-zeros, tidy-zeros, lies-there, new-in-order, got-in-order, consumed-in-order, raised-in-order}
 use Rattle.obeys.specs.Reached.{DeskStart, fresh-desk}
 use Rattle.obeys.proofs.Reached.{step-keeps, reached-keeps}
-use Rattle.obeys.proofs.Words.{in-use-has, with-was, with-elsewhere, without-elsewhere, same-elsewhere}
-use Rattle.obeys.proofs.Chosen.{sought-found}
-use Rattle.obeys.proofs.Seen.{is-open, is-unseen, waits, open-fact, lies-there}
 use Rattle.obeys.proofs.Bounds.{visible, weak, strong}
-use Rattle.obeys.proofs.Order.Rows.{connected-in-order, got-in-order, consumed-in-order, raised-in-order}
 use Rattle.obeys.proofs.Order.Desks.{thread-set, connection-set, stored-in-order, ended-in-order, swept-in-order}
 
 -- ---- the fresh desk
-
--- a table of zeros
-all-zeros : {A : Type 0} (zeros : A) (n place : ℕ) → getD (replicate n zeros) place zeros ≡ zeros
-all-zeros zeros zero place = refl
-all-zeros zeros (suc n) zero = refl
-all-zeros zeros (suc n) (suc place) = all-zeros zeros n place
-
-tidy-zeros : {A : Type 0} (zeros : A) (places used : ℕ) → ((place : ℕ) → has used place ≡ true → place < places) → Tidy places zeros used (replicate places zeros)
-tidy-zeros zeros places used inside = record { sized = length-replicate places zeros; inside = inside; free = λ place unused. all-zeros zeros places place }
 
 -- thread 0 alone lives, and nothing else is used
 one-lives : (thread : ℕ) → has 1 thread ≡ true → thread < threadPlaces
@@ -38,14 +24,16 @@ nothing place used = true-not-false used (has-none place)
 fresh-in-order : DeskInOrder fresh
 unfolding fresh
 fresh-in-order = record {
-  threads = tidy-zeros noThread 16 1 one-lives;
-  connections = tidy-zeros noConnection 32 0 (λ connection used. absurd (nothing connection used));
-  items = tidy-zeros noItem 64 0 (λ place used. absurd (nothing place used));
+  threads = tidy-zeros noThread threadPlaces 1 one-lives;
+  connections = tidy-zeros noConnection connectionPlaces 0 (λ connection used. absurd (nothing connection used));
+  items = record {
+    tidy = tidy-zeros noItem itemPlaces 0 (λ place used. absurd (nothing place used));
+    timestamps = λ place used. absurd (nothing place used);
+    one-item-a-pair = λ place other used. absurd (nothing place used);
+  };
   channels = λ channel used. absurd (nothing channel used);
-  times = λ thread. rw (all-zeros noThread 16 thread) (omega arith);
+  times = λ thread. rw (all-zeros noThread threadPlaces thread) (omega arith);
   attached = λ connection used. absurd (nothing connection used);
-  timestamps = λ place used. absurd (nothing place used);
-  one-item-a-pair = λ place other used. absurd (nothing place used);
 }
 
 starts-in-order : (d : Desk) → DeskStart d → DeskInOrder d
@@ -74,20 +62,17 @@ module _ (d : Desk) (o : DeskInOrder d) where
       let (there, channel) = lies-there (itemsOf d) row place (and-left _ _ unseen) in
       let new = is-unseen (stateAt (itemsOf d) row place) (and-right (lies (itemsOf d) row place) _ unseen) in
       owned-set thread connection owned _
-      (λ c. got-in-order c place (there, channel, reads) (waits row _ place (ap isPending new) .kept))
+      (λ c. got-in-order c place (there, channel, reads) (unconsumed row _ place (ap isPending new) .kept))
   opened-in-order thread connection which owned reads Nothing search found = absurd (false≢true found)
 
   bound-top : (bound : Bound) → boundOf d bound ≤ never
   bound-top Weak = weak d o .at-most-never
   bound-top Strong = strong d o .at-most-never
 
-  added : (w p : ℕ) {P : Type 0} → p < 64 → has (with w p) p ≡ false → P
-  added w p below unused = absurd (true-not-false (with-same w below) unused)
-
   attached-in-order : freeConnection d < connectionPlaces → (row : Row) → ConnectionInOrder (itemsOf d) row → DeskInOrder (attachedAs d row)
   unfolding attachedAs
   attached-in-order fits row good =
-      connection-set o (freeConnection d) row (with-elsewhere (d .attached) (freeConnection d)) fits (added (d .attached) (freeConnection d) (omega arith)) (λ _. good)
+      connection-set o (freeConnection d) row (with-elsewhere (d .attached) (freeConnection d)) fits (λ lacking. absurd (with-there (d .attached) {p = freeConnection d} (omega arith) lacking)) (λ _. good)
 
   pub in-order-effect : (call : Call) → Passable call → Passed d call → DeskInOrder (effect d call)
   unfolding checks effect adopted state
@@ -101,17 +86,15 @@ module _ (d : Desk) (o : DeskInOrder d) where
     ];
     times = o .times;
     attached = o .attached;
-    timestamps = o .timestamps;
-    one-item-a-pair = o .one-item-a-pair;
   }
   in-order-effect (by thread (NewThread time)) fits p =
       let below : freeThread d < threadPlaces = ltb-true _ _ (p .held 9) in
-      thread-set o (freeThread d) time (with-elsewhere (d .living) (freeThread d)) below (added (d .living) (freeThread d) (omega arith)) (omega arith)
+      thread-set o (freeThread d) time (with-elsewhere (d .living) (freeThread d)) below (λ lacking. absurd (with-there (d .living) {p = freeThread d} (omega arith) lacking)) (omega arith)
   in-order-effect (by thread (AttachInput channel)) fits p =
       attached-in-order (ltb-true _ _ (p .held 9)) _
-      (connected-in-order (itemsOf d) inward thread channel (visibleTime d thread) (inl refl) (visible d o thread (p .held 1) .at-most-never))
+      (new-in-order (itemsOf d) (connected inward thread channel (visibleTime d thread)) (inl refl) (visible d o thread (p .held 1) .at-most-never) refl refl)
   in-order-effect (by thread (AttachOutput channel)) fits p =
-      attached-in-order (ltb-true _ _ (p .held 9)) _ (connected-in-order (itemsOf d) outward thread channel 0 (inr refl) (omega arith))
+      attached-in-order (ltb-true _ _ (p .held 9)) _ (new-in-order (itemsOf d) (connected outward thread channel 0) (inr refl) (omega arith) refl refl)
   in-order-effect (by thread (Detach connection)) fits p =
       connection-set o connection noConnection (without-elsewhere (d .attached) connection) (owned-below d thread connection (p .held 3)) (λ _. refl)
       (λ used. absurd (true-not-false used (without-same (d .attached) connection)))

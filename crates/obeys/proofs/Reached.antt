@@ -1,6 +1,6 @@
 -- A step by its checks; a call leads from a reached desk to a reached desk, so a law of every reached desk needs one law of a step. Assumes nothing.
 use Rattle.obeys.proofs.Basis.{AllPassable, Call, Desk, List, Pass, Passable, Passed, Reached, [], _++_, _∙_, _∷_, _≡_, accepted, after, ap, bool-cases, checks, codes, decided, effect, eqb, eqb-true, fresh, outcome}
-use Rattle.obeys.proofs.Basis.{pass-decided, passed, passing, refl, step, subst, told}
+use Rattle.obeys.proofs.Basis.{pass-decided, passed, passing, refl, step, subst, told, answer, passable-more}
 use Rattle.obeys.specs.Reached.{DeskStart, fresh-desk}
 
 -- ---- a step
@@ -35,10 +35,6 @@ after-more : (d : Desk) (calls more : List Call) → after d (calls ++ more) ≡
 unfolding after
 after-more d [] more = refl
 after-more d (call ∷ calls) more = after-more (step d call .desk) calls more
-
-passable-more : (calls more : List Call) → AllPassable calls → AllPassable more → AllPassable (calls ++ more)
-passable-more [] more all all-more = all-more
-passable-more (call ∷ calls) more all all-more = (all .0, passable-more calls more (all .1) all-more)
 
 pub start-reached : (d : Desk) → DeskStart d → Reached d
 unfolding after

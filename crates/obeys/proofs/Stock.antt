@@ -1,63 +1,49 @@
--- The view after a put: one item more, and UNSEEN where it was ABSENT. Assumes nothing.
-use Rattle.obeys.proofs.Basis.{_∙_, _≡_, ap, refl, sym, false, true, _≢_, some, _<_, _≤_, ℕ, ℕ-discrete, arith, eqb, ltb, getD-set-other, getD-set-same, eq-eqb, eqb-true, le-leb, lt-leb, lt-ltb, ltb-true, ne-eqb, has}
-use Rattle.obeys.proofs.Basis.{free-lacks, lowest-ext, with-other, with-same, inward, noItem, stateOf, Row, Item, bool-cases, true-not-false, isItem, placeOf, state, connectionAt, isConnection, itemAt, freeItem, stored}
-use Rattle.obeys.proofs.Basis.{connectionsOf, itemsOf, Desk, input, noticed, noticing, withItem, DeskInOrder, connectionOf, itemOf, viewOf}
-use Rattle.obeys.proofs.Chosen.{place-found}
-use Rattle.obeys.proofs.Words.{in-use-has, not-then}
+-- The view after a put: one item more, and UNSEEN where it was ABSENT, as no fact stands in the free place where it lies. Assumes nothing.
+use Rattle.obeys.proofs.Basis.{_∙_, _≡_, ap, refl, sym, false, true, _≢_, some, _<_, _≤_, ℕ, ℕ-discrete, eqb, ltb, eq-eqb, eqb-true, le-leb, lt-leb, lt-ltb, ltb-true, ne-eqb, has, inward, never, stateOf, Row, Item, placeOf}
+use Rattle.obeys.proofs.Basis.{state, connectionAt, isConnection, itemAt, itemPlaces, stored, freeItem, connectionsOf, itemsOf, Desk, input, noticed, noticing, withItem, DeskInOrder, viewOf, connectionOf, itemOf}
+use Rattle.obeys.proofs.Basis.{true-not-false, bool-cases, not-then, in-use-has, found-holds, new-lacks, new-item, old-item, old-place, new-place}
 use Rattle.obeys.proofs.Frame.{view-ext}
-use Rattle.obeys.proofs.Lookup.{used-view, unused-view, input-row, output-row, Holds, holds-of, holds-place}
+use Rattle.obeys.proofs.Lookup.{input-row, output-row, unused-view, used-view}
 use Rattle.obeys.proofs.Rows.{input-seen}
 
-module _ (d : Desk) (o : DeskInOrder d) (item : Item) (o′ : DeskInOrder (stored d item)) (free : freeItem d < 64) (absent : 64 ≤ placeOf (itemsOf d) (item .channel) (item .timestamp)) where
+module _ (d : Desk) (o : DeskInOrder d) (item : Item) (free : freeItem d < itemPlaces) (stamped : item .timestamp < never)
+    (absent : itemPlaces ≤ placeOf (itemsOf d) (item .channel) (item .timestamp)) where
   abbrev e : Desk
   e = stored d item
 
   lacks : has (d .present) (freeItem d) ≡ false
-  lacks = free-lacks (d .present) free
+  lacks = new-lacks (o .items) item free
 
-  -- the new place, and the others
-  here : itemAt (itemsOf e) (freeItem d) ≡ item
-  unfolding stored
-  here = getD-set-same (d .items) (freeItem d) item noItem (omega (arith, o .items .sized))
+  abbrev Another : ℕ → ℕ → Type 0
+  Another channel timestamp = channel ≡ item .channel → timestamp ≡ item .timestamp → ⊥
 
-  beside : (p : ℕ) → p ≢ freeItem d → itemAt (itemsOf e) p ≡ itemAt (itemsOf d) p
-  unfolding stored
-  beside p apart = getD-set-other (d .items) (freeItem d) p item noItem apart
-
-  new-holds : Holds e o′ (freeItem d) (item .channel) (item .timestamp)
-  unfolding stored
-  new-holds = record { inside = free; there = with-same (d .present) free; channel-is = ap (λ (i : Item). i .channel) here; timestamp-is = ap (λ (i : Item). i .timestamp) here }
-
+  -- the new pair's place, and that of another
   place-new : placeOf (itemsOf e) (item .channel) (item .timestamp) ≡ freeItem d
-  place-new = holds-place e o′ new-holds
+  unfolding stored
+  place-new = new-place (o .items) item free stamped absent
 
-  -- another pair keeps its place
-  is-item-same : (channel timestamp : ℕ) → (channel ≡ item .channel → timestamp ≡ item .timestamp → ⊥) → (p : ℕ) → p < 64
-      → isItem (itemsOf e) channel timestamp p ≡ isItem (itemsOf d) channel timestamp p
-  unfolding isItem stored
-  is-item-same channel timestamp differ p inside =
-      elim (ℕ-discrete p (freeItem d)) [
-        | yes same ↦ rw (same, lacks) (bool-cases (isItem (itemsOf e) channel timestamp (freeItem d))
-            (λ is. absurd (let h = holds-of e o′ (freeItem d) channel timestamp is in
-            differ (sym (h .channel-is) ∙ ap (λ (i : Item). i .channel) here) (sym (h .timestamp-is) ∙ ap (λ (i : Item). i .timestamp) here)))
-            (λ is. is))
-        | no apart ↦ rw (with-other (d .present) inside apart, getD-set-other (d .items) (freeItem d) p item noItem apart)
-      ]
-
-  place-same : (channel timestamp : ℕ) → (channel ≡ item .channel → timestamp ≡ item .timestamp → ⊥) → placeOf (itemsOf e) channel timestamp ≡ placeOf (itemsOf d) channel timestamp
-  unfolding placeOf
-  place-same channel timestamp differ = lowest-ext _ _ 64 (is-item-same channel timestamp differ)
+  place-same : (channel timestamp : ℕ) → Another channel timestamp → placeOf (itemsOf e) channel timestamp ≡ placeOf (itemsOf d) channel timestamp
+  unfolding stored
+  place-same channel timestamp differ = old-place (o .items) item free channel timestamp differ
 
   -- ---- the items
 
-  item-new : itemOf (itemsOf e) (item .channel) (item .timestamp) ≡ some (item .ticket)
-  item-new = rw (place-new, lt-ltb (freeItem d) 64 free, here)
+  here : itemAt (itemsOf e) (freeItem d) ≡ item
+  unfolding stored
+  here = new-item (o .items) item free
 
-  item-same : (channel timestamp : ℕ) → (channel ≡ item .channel → timestamp ≡ item .timestamp → ⊥) → itemOf (itemsOf e) channel timestamp ≡ itemOf (itemsOf d) channel timestamp
+  beside : (p : ℕ) → p ≢ freeItem d → itemAt (itemsOf e) p ≡ itemAt (itemsOf d) p
+  unfolding stored
+  beside p apart = old-item (o .items) item free p apart
+
+  item-new : itemOf (itemsOf e) (item .channel) (item .timestamp) ≡ some (item .ticket)
+  item-new = rw (place-new, lt-ltb (freeItem d) itemPlaces free, here)
+
+  item-same : (channel timestamp : ℕ) → Another channel timestamp → itemOf (itemsOf e) channel timestamp ≡ itemOf (itemsOf d) channel timestamp
   item-same channel timestamp differ =
       rw (place-same channel timestamp differ)
-      (bool-cases (ltb (placeOf (itemsOf d) channel timestamp) 64)
-      (λ q. let h = holds-of d o (placeOf (itemsOf d) channel timestamp) channel timestamp (place-found (itemsOf d) channel timestamp (ltb-true _ 64 q)) in
+      (bool-cases (ltb (placeOf (itemsOf d) channel timestamp) itemPlaces)
+      (λ q. let h = found-holds (itemsOf d) channel timestamp (ltb-true _ itemPlaces q) in
       rw (q, beside (placeOf (itemsOf d) channel timestamp) (λ same. true-not-false (h .there) (ap (has (d .present)) same ∙ lacks))))
       (λ q. rw q))
 
@@ -75,7 +61,7 @@ module _ (d : Desk) (o : DeskInOrder d) (item : Item) (o′ : DeskInOrder (store
       rw (reads, place-new, lt-leb 64 (freeItem d) free, no-open, no-consumed, le-leb 64 (placeOf (itemsOf d) (item .channel) (item .timestamp)) absent)
       (bool-cases (ltb (item .timestamp) (row .mark)) (λ q. rw q) (λ q. rw q))
 
-  state-same : (row : Row) (n : ℕ) → (row .channel ≡ item .channel → n ≡ item .timestamp → ⊥) → state (itemsOf e) row n ≡ state (itemsOf d) row n
+  state-same : (row : Row) (n : ℕ) → Another (row .channel) n → state (itemsOf e) row n ≡ state (itemsOf d) row n
   unfolding state
   state-same row n differ = ap (stateOf row n) (place-same (row .channel) n differ)
 

@@ -1,14 +1,14 @@
 -- A chain of checks. The code goes through them from the front and keeps the first code that is not 0; 01's answer is that of the first check that fails.
 -- Both are the same by induction over the chain, since no check refuses with 0; and the whole answer follows from its code, since a refusal tells
 -- nothing beside it, but for the one that is put in last. Assumes nothing.
-use mathlib.Core.Path.{_≡_, refl, sym, ap, ap₂, _∙_}
-use mathlib.Core.Bool.{Bool, true, false, cond, not, _&&_}
+use mathlib.Core.Path.{_≡_, refl, sym, ap, ap₂}
+use mathlib.Core.Bool.{Bool, true, false, not, _&&_}
 use mathlib.Core.List.{List, [], _∷_}
 use Prim.Native.Nat.{ℕ}
 use lib.Dec.{eqb}
 use borrow.Author.Tests.{eq-eqb, eqb-true, not-true}
 use Rattle.rows.specs.declared.Answer.{Answer}
-use Rattle.rows.specs.Answers.{Told, answer, accepted, refusal, Check, decided, checked, withCode, telling}
+use Rattle.rows.specs.Answers.{Told, answer, accepted, Check, decided, checked, withCode, telling}
 use Rattle.rows.proofs.Laws.{and-left, and-right, bool-cases, true-not-false}
 
 -- ---- what is known where all hold

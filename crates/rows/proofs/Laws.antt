@@ -1,87 +1,33 @@
--- The laws of one row: of yes and no, of the four states and of times. Assumes nothing.
-use mathlib.Core.Path.{_≡_, refl, sym, _∙_, ap}
-use mathlib.Core.Bool.{Bool, true, false, cond, not, _&&_, true≢false, false≢true}
+-- The laws of times, of each the cases that its definition has; and those of yes and no, for the crates above. Assumes nothing.
 pub use mathlib.Core.Bool.{and-assoc, and-comm}
-use Prim.Native.Nat.{ℕ, _<_, min}
-use lib.Dec.{eqb, leb, ltb}
-use borrow.Author.Tests.{ltb-true, ltb-false, le-leb, lt-leb}
-use Rattle.rows.specs.declared.Connection.{Connection}
-use Rattle.calls.specs.declared.State.the-variants.{Consumed}
-use Rattle.calls.specs.States.{isUnseen, isOpen, isPending}
-use Rattle.rows.specs.States.{byName, stateOf}
+pub use Rattle.words.proofs.YesOrNo.{true-not-false, and-left, and-right, and-both, bool-cases, cond-same, not-then}
+use mathlib.Core.Bool.{Bool, false, true}
+use mathlib.Core.Path.{_∙_, _≡_, ap, refl, sym}
+use Prim.Native.Nat.{min, ℕ}
+use native.Mathlib.Nat.{min-eq-right}
+use lib.Dec.{ltb}
+use borrow.Author.Tests.{ltb-false}
 use Rattle.rows.specs.Times.{leastIf}
-use Rattle.words.specs.Words.{has}
 
--- ---- yes and no
+-- a step whose test was made beforehand
+pub least-if-by : (time least : ℕ) {counts holds : Bool} {x : ℕ} → x ≡ leastIf counts time least → counts ≡ holds → x ≡ leastIf holds time least
+least-if-by time least step test = step ∙ ap (λ (t : Bool). leastIf t time least) test
 
-pub true-not-false : {b : Bool} → b ≡ true → b ≡ false → ⊥
-true-not-false holds fails = true≢false (sym holds ∙ fails)
-
-pub and-left : (a b : Bool) → (a && b) ≡ true → a ≡ true
-and-left true b both = refl
-and-left false b both = both
-
-pub and-right : (a b : Bool) → (a && b) ≡ true → b ≡ true
-and-right true b both = both
-and-right false b both = absurd (false≢true both)
-
-pub and-both : {a b : Bool} → a ≡ true → b ≡ true → (a && b) ≡ true
-and-both {a} {b} left right = ap (λ (x : Bool). x && b) left ∙ right
-
-pub bool-cases : {P : Type 0} (b : Bool) → (b ≡ true → P) → (b ≡ false → P) → P
-bool-cases true if-true if-false = if-true refl
-bool-cases false if-true if-false = if-false refl
-
-pub cond-same : {A : Type 0} (b : Bool) (x : A) → cond b x x ≡ x
-cond-same true x = refl
-cond-same false x = refl
-
--- ---- the four states
-
--- of a timestamp whose item is present
-pub state-present : (c : Connection) (s p : ℕ) → p < 64 → stateOf c s p ≡ cond (leb (c .mark) s) (byName (has (c .opened) p) (has (c .consumed) p)) Consumed
-unfolding stateOf
-state-present c s p inside =
-    bool-cases (ltb s (c .mark))
-    (λ below. simp (below, lt-leb (c .mark) s (ltb-true s (c .mark) below)))
-    (λ above. simp (above, lt-leb 64 p inside, le-leb (c .mark) s (ltb-false s (c .mark) above)))
-
-open-by : (above opened consumed : Bool) → isOpen (cond above (byName opened consumed) Consumed) ≡ (above && (opened && not consumed))
-open-by false opened consumed = refl
-open-by true true true = refl
-open-by true true false = refl
-open-by true false true = refl
-open-by true false false = refl
-
-unseen-by : (above opened consumed : Bool) → isUnseen (cond above (byName opened consumed) Consumed) ≡ (above && (not opened && not consumed))
-unseen-by false opened consumed = refl
-unseen-by true true true = refl
-unseen-by true true false = refl
-unseen-by true false true = refl
-unseen-by true false false = refl
-
-pending-by : (above opened consumed : Bool) → isPending (cond above (byName opened consumed) Consumed) ≡ (above && not consumed)
-pending-by false opened consumed = refl
-pending-by true opened true = refl
-pending-by true true false = refl
-pending-by true false false = refl
-
-module _ (c : Connection) (s p : ℕ) (inside : p < 64) where
-  pub open-is : isOpen (stateOf c s p) ≡ (leb (c .mark) s && (has (c .opened) p && not (has (c .consumed) p)))
-  open-is = ap isOpen (state-present c s p inside) ∙ open-by (leb (c .mark) s) (has (c .opened) p) (has (c .consumed) p)
-
-  pub unseen-is : isUnseen (stateOf c s p) ≡ (leb (c .mark) s && (not (has (c .opened) p) && not (has (c .consumed) p)))
-  unseen-is = ap isUnseen (state-present c s p inside) ∙ unseen-by (leb (c .mark) s) (has (c .opened) p) (has (c .consumed) p)
-
-  pub pending-is : isPending (stateOf c s p) ≡ (leb (c .mark) s && not (has (c .consumed) p))
-  pending-is = ap isPending (state-present c s p inside) ∙ pending-by (leb (c .mark) s) (has (c .opened) p) (has (c .consumed) p)
-
--- ---- times
-
-pub least-if-true : {counts : Bool} → counts ≡ true → (time least : ℕ) → leastIf counts time least ≡ min time least
+-- what does not count is not looked at
+pub least-if-time : (counts : Bool) {x y : ℕ} (least : ℕ) → (counts ≡ true → x ≡ y) → leastIf counts x least ≡ leastIf counts y least
 unfolding leastIf
-least-if-true counted time least = rw counted
+least-if-time true least same = ap (λ (x : ℕ). min x least) (same refl)
+least-if-time false least same = refl
 
-pub least-if-false : {counts : Bool} → counts ≡ false → (time least : ℕ) → leastIf counts time least ≡ least
+-- a time that is not below the least does not lower it
+pub least-if-counts : {a b : Bool} (time least : ℕ) → (ltb time least ≡ true → a ≡ b) → leastIf a time least ≡ leastIf b time least
 unfolding leastIf
-least-if-false passed-over time least = rw passed-over
+least-if-counts {a} {b} time least same =
+    bool-cases
+    (ltb time least)
+    (λ below. ap (λ (t : Bool). leastIf t time least) (same below))
+    (λ above. not-lower a above ∙ sym (not-lower b above))
+  where
+    not-lower : (t : Bool) → ltb time least ≡ false → leastIf t time least ≡ least
+    not-lower true above = min-eq-right (ltb-false time least above)
+    not-lower false above = refl

@@ -4,6 +4,7 @@ use Prim.Native.Nat.{ℕ}
 use lib.Dec.{eqb, leb, ltb}
 use Rattle.rows.specs.declared.Connection.{Connection}
 use Rattle.rows.specs.declared.Item.{Item}
+use Rattle.rows.specs.Numbers.{itemPlaces}
 use Rattle.calls.specs.declared.State.{State}
 use Rattle.calls.specs.declared.State.the-variants.{Absent, Unseen, Open, Consumed}
 use Rattle.words.specs.Words.{has}
@@ -15,11 +16,11 @@ byName true false = Open
 byName false false = Unseen
 
 -- "For a timestamp on it: CONSUMED if below the mark; otherwise ABSENT if the channel has no such item; otherwise UNSEEN, OPEN or CONSUMED,
--- as it was got and consumed by name." The place is that of the channel's item with the timestamp; 64 says that the channel has none.
+-- as it was got and consumed by name." The place is that of the channel's item with the timestamp; a place past the last says that the channel has none.
 unfoldable pub stateOf : Connection → ℕ → ℕ → State
 stateOf connection timestamp place =
     cond (ltb timestamp (connection .mark)) Consumed
-    (cond (leb 64 place) Absent
+    (cond (leb itemPlaces place) Absent
     (byName (has (connection .opened) place) (has (connection .consumed) place)))
 
 -- the item lies in the connection's channel and not below its mark

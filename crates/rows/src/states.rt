@@ -6,14 +6,14 @@ use crate::Item;
 use calls::State;
 
 impl Connection {
-    // The state of a timestamp whose item lies in the place; a place past 63 says that the channel has none.
+    // The state of a timestamp whose item lies in the place; a place past the last says that the channel has none.
     pub fn state_of(self, timestamp: u32, place: u32) -> State
         ensures { λ r. ⌜ r ≡ stateOf self timestamp place ⌝ }
     {
         if timestamp < self.mark {
             return State::Consumed;
         }
-        if place >= 64 {
+        if place >= Item::PLACES {
             return State::Absent;
         }
         if words::has(self.consumed, place) {

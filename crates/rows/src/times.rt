@@ -1,7 +1,10 @@
-// The smaller and the larger of two times.
+// Never, and the smaller and the larger of two times.
 ghost use mathlib.Core.Path.{_≡_};
 ghost use Prim.Native.Nat.{min, max};
 ghost use Rattle.rows.specs.Times.{leastIf};
+
+// The value that is called never: no timestamp is as large.
+pub const NEVER: u32 = 4294967295;
 
 pub fn smaller(a: u32, b: u32) -> u32
     ensures { λ r. ⌜ r ≡ min a b ⌝ }

@@ -1,26 +1,27 @@
 -- The parts of visible time and of the two bounds, as loops over the places of a word. Assumes nothing.
-use mathlib.Core.Path.{_≡_, refl, sym, ap, _∙_}
-use mathlib.Core.Bool.{Bool, true, false, cond, not, _&&_, and-false}
-use Prim.Native.Nat.{ℕ, zero, suc, _≤_, _<_, min}
-use native.Mathlib.Nat.{min-eq-left, min-eq-right}
+use mathlib.Core.Bool.{Bool, _&&_, and-assoc, and-comm, and-false, cond, false, not, true}
+use mathlib.Core.Path.{_∙_, _≡_, ap, refl, sym}
+use Prim.Native.Nat.{_<_, _≤_, min, suc, zero, ℕ}
+use native.Mathlib.Nat.{min-eq-left}
 use native.Mathlib.Omega.{arith}
 use lib.Dec.{eqb, leb, ltb}
-use borrow.Author.Tests.{ltb-false}
-use Rattle.words.specs.Places.{foldTo, each}
-use Rattle.words.specs.Words.{has, without, both, except, lowest, count}
-use Rattle.words.proofs.Laws.{both-at, except-at, count-none}
-use Rattle.words.proofs.Walk.{each-turn, each-and, each-ext}
-use Rattle.rows.specs.declared.Thread.{Thread}
-use Rattle.rows.specs.declared.Connection.{Connection}
-use Rattle.rows.specs.declared.Item.{Item}
-use Rattle.rows.specs.Numbers.{never, input}
+use Rattle.words.specs.Places.{each, foldTo}
+use Rattle.words.specs.Words.{both, count, except, has, lowest, without}
+use Rattle.words.proofs.Laws.{both-at, count-none, except-at}
+use Rattle.words.proofs.Walk.{each-and, each-ext, each-same, each-turn, each-where}
+use Rattle.words.proofs.YesOrNo.{cond-same}
 use Rattle.calls.specs.States.{isPending}
+use Rattle.rows.specs.Numbers.{connectionPlaces, input, itemPlaces, never, threadPlaces}
 use Rattle.rows.specs.States.{lookedAt, stateOf}
 use Rattle.rows.specs.Times.{leastIf}
-use Rattle.rows.proofs.Laws.{and-assoc, and-comm, bool-cases, cond-same, open-is}
-use Rattle.tables.specs.Tables.{Table, threadAt, connectionAt, itemAt, isInput, readsFor}
-use Rattle.tables.specs.Seen.{lies, isOpenAt, isPendingAt}
-use Rattle.tables.specs.Times.{smallest, some, leastTime, openTime, leastOpen, leastKeep, isAwaited, leastAwaited}
+use Rattle.rows.specs.declared.Connection.{Connection}
+use Rattle.rows.specs.declared.Item.{Item}
+use Rattle.rows.specs.declared.Thread.{Thread}
+use Rattle.rows.proofs.Laws.{least-if-counts, least-if-time}
+use Rattle.rows.proofs.Seen.{open-is}
+use Rattle.tables.specs.Seen.{isOpenAt, isPendingAt, lies}
+use Rattle.tables.specs.Tables.{Table, connectionAt, isInput, itemAt, readsFor, threadAt}
+use Rattle.tables.specs.Times.{isAwaited, leastAwaited, leastKeep, leastOpen, leastTime, openTime, smallest, some}
 use Rattle.tables.proofs.Used.{used-below}
 
 -- ---- virtual times
@@ -28,19 +29,19 @@ use Rattle.tables.proofs.Used.{used-below}
 abbrev pub timeStep : Table Thread → ℕ → ℕ → ℕ
 timeStep threads t least = min (threadAt threads t .time) least
 
-pub least-time-is : (threads : Table Thread) → leastTime threads ≡ each 16 (has (threads .used)) (timeStep threads) never
+pub least-time-is : (threads : Table Thread) → leastTime threads ≡ each threadPlaces (has (threads .used)) (timeStep threads) never
 unfolding leastTime smallest
-least-time-is threads = each-ext 16 _ _ never _ _ (λ t inside. used-below (threads .used) inside) (λ t least inside. refl)
+least-time-is threads = each-ext threadPlaces _ _ never _ _ (λ t inside. used-below (threads .used) inside) (λ t least inside. refl)
 
 -- ---- keep times
 
 abbrev pub keepStep : Table Connection → ℕ → ℕ → ℕ
 keepStep connections k least = leastIf (eqb (connectionAt connections k .direction) input) (connectionAt connections k .mark) least
 
-pub least-keep-is : (connections : Table Connection) → leastKeep connections ≡ each 32 (has (connections .used)) (keepStep connections) never
+pub least-keep-is : (connections : Table Connection) → leastKeep connections ≡ each connectionPlaces (has (connections .used)) (keepStep connections) never
 unfolding leastKeep smallest isInput leastIf
 least-keep-is connections =
-    each-and 32 _ never _ _ _ (λ k inside. ap (λ (t : Bool). t && eqb (connectionAt connections k .direction) input) (used-below (connections .used) inside))
+    each-and connectionPlaces _ never _ _ _ (λ k inside. ap (λ (t : Bool). t && eqb (connectionAt connections k .direction) input) (used-below (connections .used) inside))
 
 -- ---- a loop that starts at a time
 
@@ -57,38 +58,6 @@ smallest-from (suc n) counts time start fits = go (counts n) _ (smallest-from n 
 
 -- ---- a loop within a loop
 
--- the word of the inner loop is empty where the inner loop is not wanted
-each-where : {B : Type 0} (n : ℕ) (f : ℕ → B → B) (b : B) (w : ℕ) {wanted : Bool} {v : ℕ} {x : B}
-    → v ≡ cond wanted w 0
-    → x ≡ each n (has v) f b
-    → wanted ≡ true
-    → x ≡ each n (has w) f b
-each-where n f b w {wanted} {v} {x} word result holds =
-    result ∙ ap (λ (u : ℕ). each n (has u) f b) (word ∙ ap (λ (t : Bool). cond t w 0) holds)
-
--- a step whose test was made beforehand
-pub least-if-by : (time least : ℕ) {counts holds : Bool} {x : ℕ} → x ≡ leastIf counts time least → counts ≡ holds → x ≡ leastIf holds time least
-least-if-by time least step test = step ∙ ap (λ (t : Bool). leastIf t time least) test
-
--- what does not count is not looked at
-least-if-time : (counts : Bool) {x y : ℕ} (least : ℕ) → (counts ≡ true → x ≡ y) → leastIf counts x least ≡ leastIf counts y least
-unfolding leastIf
-least-if-time true least same = ap (λ (x : ℕ). min x least) (same refl)
-least-if-time false least same = refl
-
--- a time that is not below the least does not lower it
-least-if-counts : {a b : Bool} (time least : ℕ) → (ltb time least ≡ true → a ≡ b) → leastIf a time least ≡ leastIf b time least
-unfolding leastIf
-least-if-counts {a} {b} time least same =
-    bool-cases
-    (ltb time least)
-    (λ below. ap (λ (t : Bool). leastIf t time least) (same below))
-    (λ above. not-lower a above ∙ sym (not-lower b above))
-  where
-    not-lower : (t : Bool) → ltb time least ≡ false → leastIf t time least ≡ least
-    not-lower true above = min-eq-right (ltb-false time least above)
-    not-lower false above = refl
-
 -- ---- OPEN timestamps
 
 abbrev pub openPlaces : Table Item → Connection → ℕ
@@ -104,7 +73,7 @@ open-split false lies above true consumed = refl
 open-split true lies above true consumed = sym (and-assoc lies above (not consumed)) ∙ and-comm (lies && above) (not consumed)
 
 -- what the code tests: the place is among those that can be OPEN, and its item is looked at
-open-at : (items : Table Item) (connection : Connection) (p : ℕ) → p < 64
+open-at : (items : Table Item) (connection : Connection) (p : ℕ) → p < itemPlaces
     → isOpenAt items connection p ≡ (has (openPlaces items connection) p && lookedAt connection (itemAt items p))
 unfolding isOpenAt lies lookedAt
 open-at items connection p inside =
@@ -119,9 +88,9 @@ open-at items connection p inside =
     ∙ sym (ap (λ (t : Bool). t && (beside && above)) (both-at (connection .opened) _ inside ∙ ap (λ (t : Bool). opened && t) unconsumed))
 
 pub open-time-is : (items : Table Item) (connection : Connection)
-    → openTime items connection ≡ each 64 (has (openPlaces items connection)) (openStep items connection) never
+    → openTime items connection ≡ each itemPlaces (has (openPlaces items connection)) (openStep items connection) never
 unfolding openTime smallest leastIf
-open-time-is items connection = each-and 64 _ never _ _ _ (open-at items connection)
+open-time-is items connection = each-and itemPlaces _ never _ _ _ (open-at items connection)
 
 abbrev pub readsRow : Connection → ℕ → Bool
 readsRow connection t = eqb (connection .direction) input && eqb (connection .thread) t
@@ -130,10 +99,10 @@ abbrev pub readStep : Table Connection → Table Item → ℕ → ℕ → ℕ �
 readStep connections items t k least = leastIf (readsRow (connectionAt connections k) t) (openTime items (connectionAt connections k)) least
 
 pub least-open-is : (connections : Table Connection) (items : Table Item) (t : ℕ)
-    → leastOpen connections items t ≡ each 32 (has (connections .used)) (readStep connections items t) never
+    → leastOpen connections items t ≡ each connectionPlaces (has (connections .used)) (readStep connections items t) never
 unfolding leastOpen smallest readsFor isInput leastIf
 least-open-is connections items t =
-    each-and 32 _ never _ _ _
+    each-and connectionPlaces _ never _ _ _
     (λ k inside. let connection = connectionAt connections k in
     let reads : Bool = eqb (connection .direction) input in
     let its : Bool = eqb (connection .thread) t in
@@ -143,13 +112,13 @@ least-open-is connections items t =
 pub open-turn : (items : Table Item) (connection : Connection) (t least : ℕ) {reads : Bool} {left opened x : ℕ}
     → reads ≡ readsRow connection t
     → left ≡ cond reads (openPlaces items connection) 0
-    → opened ≡ each 64 (has left) (openStep items connection) never
+    → opened ≡ each itemPlaces (has left) (openStep items connection) never
     → x ≡ leastIf reads opened least
     → x ≡ leastIf (readsRow connection t) (openTime items connection) least
 open-turn items connection t least {reads} read word inner outer =
     outer
     ∙ least-if-time reads least
-    (λ holds. each-where 64 (openStep items connection) never (openPlaces items connection) word inner holds ∙ sym (open-time-is items connection))
+    (λ holds. each-where itemPlaces (openStep items connection) never (openPlaces items connection) word inner holds ∙ sym (open-time-is items connection))
     ∙ ap (λ (b : Bool). leastIf b (openTime items connection) least) read
 
 -- ---- UNSEEN and OPEN timestamps
@@ -164,7 +133,7 @@ awaitStep connections item p k found = cond (awaits (connectionAt connections k)
 
 -- the item in the place is UNSEEN or OPEN on some input connection
 abbrev pub awaitedBy : Table Connection → Item → ℕ → Bool
-awaitedBy connections item p = each 32 (has (connections .used)) (awaitStep connections item p) false
+awaitedBy connections item p = each connectionPlaces (has (connections .used)) (awaitStep connections item p) false
 
 -- what the code tests: that the item is present is known in its loop already
 is-awaited : (connections : Table Connection) (items : Table Item) (p : ℕ)
@@ -179,9 +148,9 @@ is-awaited connections items p = go (has (items .used) p)
     pending k = isPending (stateOf (connectionAt connections k) (itemAt items p .timestamp) p)
 
     go : (present : Bool)
-        → (present && some 32 (λ k. isInput connections k && ((present && beside k) && pending k))) ≡ (present && awaitedBy connections (itemAt items p) p)
+        → (present && some connectionPlaces (λ k. isInput connections k && ((present && beside k) && pending k))) ≡ (present && awaitedBy connections (itemAt items p) p)
     go true =
-        each-and 32 _ false _ _ _
+        each-and connectionPlaces _ false _ _ _
         (λ k inside. let reads : Bool = eqb (connectionAt connections k .direction) input in
         ap (λ (t : Bool). (t && reads) && (beside k && pending k)) (used-below (connections .used) inside)
         ∙ and-assoc (has (connections .used) k) reads (beside k && pending k))
@@ -191,41 +160,34 @@ abbrev pub leastStep : Table Connection → Table Item → ℕ → ℕ → ℕ
 leastStep connections items p least = leastIf (awaitedBy connections (itemAt items p) p) (itemAt items p .timestamp) least
 
 pub least-awaited-is : (connections : Table Connection) (items : Table Item) (time : ℕ) → time ≤ never
-    → min time (leastAwaited connections items) ≡ each 64 (has (items .used)) (leastStep connections items) time
+    → min time (leastAwaited connections items) ≡ each itemPlaces (has (items .used)) (leastStep connections items) time
 unfolding leastAwaited leastIf
 least-awaited-is connections items time fits =
-    sym (smallest-from 64 _ _ time fits) ∙ each-and 64 _ time _ _ _ (λ p inside. is-awaited connections items p)
-
--- steps that change nothing
-each-same : {B : Type 0} (n : ℕ) (counts : ℕ → Bool) (f : ℕ → B → B) (x : B) → ((i : ℕ) → f i x ≡ x) → each n counts f x ≡ x
-unfolding each foldTo
-each-same zero counts f x same = refl
-each-same {B} (suc n) counts f x same =
-    rw (each-same n counts f x same) (ap (λ (y : B). cond (counts n) y x) (same n) ∙ cond-same (counts n) x)
+    sym (smallest-from itemPlaces _ _ time fits) ∙ each-and itemPlaces _ time _ _ _ (λ p inside. is-awaited connections items p)
 
 -- once some connection awaits the item, those left do not change that, so none of them is asked
 asked-on : (connections : Table Connection) (item : Item) (p : ℕ) (found : Bool) (v : ℕ) {left : ℕ}
     → left ≡ cond found 0 v
-    → each 32 (has left) (awaitStep connections item p) found ≡ each 32 (has v) (awaitStep connections item p) found
+    → each connectionPlaces (has left) (awaitStep connections item p) found ≡ each connectionPlaces (has v) (awaitStep connections item p) found
 asked-on connections item p true v word = answer _ ∙ sym (answer _)
   where
-    answer : (w : ℕ) → each 32 (has w) (awaitStep connections item p) true ≡ true
-    answer w = each-same 32 _ _ true (λ k. cond-same (awaits (connectionAt connections k) item p) true)
-asked-on connections item p false v word = ap (λ (u : ℕ). each 32 (has u) (awaitStep connections item p) false) word
+    answer : (w : ℕ) → each connectionPlaces (has w) (awaitStep connections item p) true ≡ true
+    answer w = each-same connectionPlaces _ _ true (λ k. cond-same (awaits (connectionAt connections k) item p) true)
+asked-on connections item p false v word = ap (λ (u : ℕ). each connectionPlaces (has u) (awaitStep connections item p) false) word
 
 -- one turn of the inner loop: the connection in the lowest place left is asked, and then the others where the item is not awaited yet
 pub asked-turn : (connections : Table Connection) (item : Item) (p w : ℕ) (found : Bool) {k v left : ℕ} {holds next t : Bool}
-    → k < 32
+    → k < connectionPlaces
     → k ≡ lowest w
     → holds ≡ awaits (connectionAt connections k) item p
     → next ≡ cond holds true found
     → v ≡ without w k
     → left ≡ cond next 0 v
-    → each 32 (has w) (awaitStep connections item p) found ≡ t
-    → each 32 (has left) (awaitStep connections item p) next ≡ t
+    → each connectionPlaces (has w) (awaitStep connections item p) found ≡ t
+    → each connectionPlaces (has left) (awaitStep connections item p) next ≡ t
 asked-turn connections item p w found {k} {v} {left} {holds} {next} inside lowest-left asked step rest word whole =
     asked-on connections item p next v word
-    ∙ each-turn 32 _ w found (omega arith) inside lowest-left (step ∙ ap (λ (b : Bool). cond b true found) asked) rest whole
+    ∙ each-turn connectionPlaces _ w found (omega arith) inside lowest-left (step ∙ ap (λ (b : Bool). cond b true found) asked) rest whole
 
 -- and fewer are left to ask
 pub asked-fewer : (found : Bool) (v : ℕ) {left n : ℕ} → left ≡ cond found 0 v → count v < n → count left < n
@@ -235,8 +197,8 @@ asked-fewer false v word fewer = rw word fewer
 -- one turn: the inner loop goes over the connections, or over none where the timestamp could not lower the least
 pub await-turn : (connections : Table Connection) (item : Item) (p least : ℕ) {left x : ℕ} {awaited : Bool}
     → left ≡ cond (ltb (item .timestamp) least) (connections .used) 0
-    → awaited ≡ each 32 (has left) (awaitStep connections item p) false
+    → awaited ≡ each connectionPlaces (has left) (awaitStep connections item p) false
     → x ≡ leastIf awaited (item .timestamp) least
     → x ≡ leastIf (awaitedBy connections item p) (item .timestamp) least
 await-turn connections item p least word inner outer =
-    outer ∙ least-if-counts (item .timestamp) least (each-where 32 (awaitStep connections item p) false (connections .used) word inner)
+    outer ∙ least-if-counts (item .timestamp) least (each-where connectionPlaces (awaitStep connections item p) false (connections .used) word inner)

@@ -1,5 +1,10 @@
 -- The laws of the tables.
-pub mod Least
-pub mod Lowest
 pub mod Used
+pub mod Some
+pub mod Least
+pub mod Chosen
+pub mod Tidy
+pub mod Items
+pub mod Stored
+pub mod Connections
 pub mod Examples

@@ -3,3 +3,4 @@ pub mod Tables
 pub mod Seen
 pub mod Times
 pub mod Search
+pub mod Order

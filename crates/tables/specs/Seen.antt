@@ -15,7 +15,7 @@ unfoldable pub isItem : Table Item → ℕ → ℕ → ℕ → Bool
 isItem items channel timestamp p =
     isPresent items p && (eqb (itemAt items p .channel) channel && eqb (itemAt items p .timestamp) timestamp)
 
--- where the channel's item with the timestamp lies; 64 where "the channel has no such item"
+-- where the channel's item with the timestamp lies; the number of places where "the channel has no such item"
 unfoldable pub placeOf : Table Item → ℕ → ℕ → ℕ
 placeOf items channel timestamp = lowestOf (isItem items channel timestamp) itemPlaces
 

@@ -9,6 +9,7 @@ use Rattle.rows.specs.declared.Thread.{Thread}
 use Rattle.rows.specs.declared.Connection.{Connection}
 use Rattle.rows.specs.declared.Item.{Item}
 use Rattle.rows.specs.Numbers.{noThread, noConnection, noItem, input}
+pub use Rattle.rows.specs.Numbers.{threadPlaces, channelPlaces, connectionPlaces, itemPlaces}
 
 -- a table is the word of its used places, and its rows
 pub record Table (A : Type 0) : Type 0 where
@@ -17,19 +18,6 @@ pub record Table (A : Type 0) : Type 0 where
 
 abbrev pub table : {A : Type 0} → ℕ → List A → Table A
 table used rows = record { used = used; rows = rows }
-
--- "Threads 16 (0..15), channels 8 (0..7), connections 32 (0..31), both directions together; items 64 in all channels together."
-abbrev pub threadPlaces : ℕ
-threadPlaces = 16
-
-abbrev pub channelPlaces : ℕ
-channelPlaces = 8
-
-abbrev pub connectionPlaces : ℕ
-connectionPlaces = 32
-
-abbrev pub itemPlaces : ℕ
-itemPlaces = 64
 
 -- the place is one of the table's, and used
 unfoldable pub inUse : ℕ → ℕ → ℕ → Bool

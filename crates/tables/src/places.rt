@@ -6,6 +6,7 @@ ghost use lib.ListN.{getD};
 ghost use Rattle.rows.specs.Numbers.{noThread};
 ghost use Rattle.tables.specs.Tables.{inUse};
 use rows::Thread;
+use rows::Threads;
 
 // Whether the place is one of the table's places, and used.
 pub fn in_use(used: u64, place: u32, places: u32) -> bool
@@ -18,10 +19,10 @@ pub fn in_use(used: u64, place: u32, places: u32) -> bool
 }
 
 // The thread in a place; zeros for a number past the table.
-pub fn thread_at(threads: [Thread; 16], place: u32) -> Thread
+pub fn thread_at(threads: Threads, place: u32) -> Thread
     ensures { λ r. ⌜ r ≡ getD threads place noThread ⌝ }
 {
-    if place >= 16 {
+    if place >= Thread::PLACES {
         return Thread::NONE;
     }
     threads[place as usize]

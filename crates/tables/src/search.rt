@@ -10,14 +10,15 @@ use calls::Which;
 use rows::Connection;
 use rows::Found;
 use rows::Item;
+use rows::Items;
 
-// The place of the channel's item with the timestamp; 64 where the channel has none.
-pub fn place_of(items: [Item; 64], present: u64, channel: u32, timestamp: u32) -> u32
+// The place of the channel's item with the timestamp; the number of places where the channel has none.
+pub fn place_of(items: Items, present: u64, channel: u32, timestamp: u32) -> u32
     ensures { λ r. ⌜ r ≡ placeOf (table present items) channel timestamp ⌝ }
 {
     let mut rest = present;
     let mut p = words::lowest(rest);
-    while p < 64 {
+    while p < Item::PLACES {
         let item = items[p as usize];
         // The timestamp first: few items share it, so that the machine foresees the way.
         if item.timestamp == timestamp {
@@ -28,7 +29,7 @@ pub fn place_of(items: [Item; 64], present: u64, channel: u32, timestamp: u32) -
         rest = words::without(rest, p);
         p = words::lowest(rest);
     }
-    64
+    Item::PLACES
 }
 
 // The places that can be UNSEEN on the connection.
@@ -63,13 +64,13 @@ fn is_tried(connection: Connection, which: Which, item: Item) -> bool
 }
 
 // What a get through the connection finds among the items UNSEEN on it.
-pub fn seek(items: [Item; 64], present: u64, connection: Connection, which: Which) -> Found
+pub fn seek(items: Items, present: u64, connection: Connection, which: Which) -> Found
     ensures { λ r. ⌜ r ≡ sought (table present items) connection which ⌝ }
 {
     let mut found = Found::Nothing;
     let mut rest = unseen_places(connection, present);
     let mut p = words::lowest(rest);
-    while p < 64 {
+    while p < Item::PLACES {
         let place = p;
         let item = items[p as usize];
         rest = words::without(rest, p);

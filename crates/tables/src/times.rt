@@ -10,21 +10,23 @@ ghost use Rattle.rows.specs.States.{stateOf};
 ghost use Rattle.tables.specs.Tables.{table};
 ghost use Rattle.tables.specs.Times.{leastTime, leastOpen, leastKeep, leastAwaited};
 use rows::Connection;
+use rows::Connections;
 use rows::Item;
+use rows::Items;
 use rows::Thread;
+use rows::Threads;
+use rows::times::NEVER;
 use rows::times::least_if;
 use rows::times::smaller;
 
-const NEVER: u32 = 4294967295;
-
 // The smallest virtual time of the living threads.
-pub fn least_time(threads: [Thread; 16], living: u64) -> u32
+pub fn least_time(threads: Threads, living: u64) -> u32
     ensures { λ r. ⌜ r ≡ leastTime (table living threads) ⌝ }
 {
     let mut least = NEVER;
     let mut rest = living;
     let mut t = words::lowest(rest);
-    while t < 16 {
+    while t < Thread::PLACES {
         let thread = threads[t as usize];
         least = smaller(thread.time, least);
         rest = words::without(rest, t);
@@ -34,13 +36,13 @@ pub fn least_time(threads: [Thread; 16], living: u64) -> u32
 }
 
 // The smallest keep time of the input connections.
-pub fn least_keep(connections: [Connection; 32], attached: u64) -> u32
+pub fn least_keep(connections: Connections, attached: u64) -> u32
     ensures { λ r. ⌜ r ≡ leastKeep (table attached connections) ⌝ }
 {
     let mut least = NEVER;
     let mut rest = attached;
     let mut k = words::lowest(rest);
-    while k < 32 {
+    while k < Connection::PLACES {
         let connection = connections[k as usize];
         least = least_if(
             connection.direction == Connection::INPUT,
@@ -78,9 +80,9 @@ fn open_places(reads: bool, connection: Connection, present: u64) -> u64
 
 // The smallest timestamp OPEN on the thread's input connections.
 pub fn least_open(
-    connections: [Connection; 32],
+    connections: Connections,
     attached: u64,
-    items: [Item; 64],
+    items: Items,
     present: u64,
     thread: u32,
 ) -> u32
@@ -89,13 +91,13 @@ pub fn least_open(
     let mut least = NEVER;
     let mut rest = attached;
     let mut k = words::lowest(rest);
-    while k < 32 {
+    while k < Connection::PLACES {
         let connection = connections[k as usize];
         let reads = reads_row(connection, thread);
         let mut open = NEVER;
         let mut left = open_places(reads, connection, present);
         let mut p = words::lowest(left);
-        while p < 64 {
+        while p < Item::PLACES {
             let item = items[p as usize];
             open = least_if(connection.looks_at(item), item.timestamp, open);
             left = words::without(left, p);
@@ -153,9 +155,9 @@ fn still_asked(awaited: bool, left: u64) -> u64
 
 // The smaller of a time and the smallest timestamp UNSEEN or OPEN on some input connection. Only items below the time are looked at.
 pub fn least_awaited(
-    connections: [Connection; 32],
+    connections: Connections,
     attached: u64,
-    items: [Item; 64],
+    items: Items,
     present: u64,
     time: u32,
 ) -> u32
@@ -164,12 +166,12 @@ pub fn least_awaited(
     let mut least = time;
     let mut rest = present;
     let mut p = words::lowest(rest);
-    while p < 64 {
+    while p < Item::PLACES {
         let item = items[p as usize];
         let mut awaited = false;
         let mut left = worth_looking(attached, item.timestamp, least);
         let mut k = words::lowest(left);
-        while k < 32 {
+        while k < Connection::PLACES {
             let connection = connections[k as usize];
             awaited = true_if(awaits(connection, p, item), awaited);
             left = still_asked(awaited, words::without(left, k));

@@ -1,25 +1,25 @@
 -- The laws of places and of words. Assumes nothing.
-use mathlib.Core.Path.{_≡_, refl, sym, ap, ap₂, _∙_}
+pub use Rattle.words.proofs.Digits.{has-none}
+use mathlib.Core.Bool.{Bool, _&&_, _||_, and-false, and-true, cond, false, not, or-false, or-true, true, true≢false}
 use mathlib.Core.Logic.{_≢_, _⊎_, ⊎-elim}
-use mathlib.Core.Bool.{Bool, true, false, cond, not, _&&_, _||_, or-true, or-false, and-true, and-false, true≢false}
-use Prim.Native.Nat.{ℕ, zero, suc, _+_, _^_, _≤_, _<_, zero-le, suc-le-suc}
-use native.Mathlib.Nat.{le-of-suc-le-suc, not-suc-le-zero, zero-lt-suc, le-refl, lt-of-not-le, le-antisymm, eq-or-lt-of-le}
+use mathlib.Core.Path.{_∙_, _≡_, ap, ap₂, refl, sym}
+use Prim.Native.Nat.{_+_, _<_, _^_, _≤_, suc, suc-le-suc, zero, zero-le, ℕ}
+use native.Mathlib.Nat.{eq-or-lt-of-le, le-antisymm, le-of-suc-le-suc, le-refl, lt-of-not-le, not-suc-le-zero, zero-lt-suc}
 use native.Mathlib.Omega.{arith}
 use lib.Dec.{eqb, ltb}
 use lib.Pow.{pow-pos}
-use borrow.Author.Tests.{lt-ltb, le-ltb, eq-eqb, ne-eqb, ltb-true, ltb-false, eqb-true, eqb-false, not-true, not-false}
+use borrow.Author.Tests.{eq-eqb, eqb-false, eqb-true, le-ltb, lt-ltb, ltb-false, ltb-true, ne-eqb, not-false, not-true}
 use Rattle.words.specs.Places.{countOf, lowestOf, wordOf}
-use Rattle.words.specs.Words.{has, with, without, both, except, lowest, lowestFree, count}
-pub use Rattle.words.proofs.Digits.{has-none}
-use Rattle.words.proofs.Digits.{num, num-le, has-from, same-places, has-top}
+use Rattle.words.specs.Words.{both, count, except, has, lowest, lowestFree, with, without, wordPlaces}
+use Rattle.words.proofs.Digits.{has-from, has-top, num, num-le, same-places}
 
 -- ---- a word and its places
 
-pub has-past : (w i : ℕ) → w < 2 ^ 64 → 64 ≤ i → has w i ≡ false
-has-past = has-from 64
+pub has-past : (w i : ℕ) → w < 2 ^ wordPlaces → wordPlaces ≤ i → has w i ≡ false
+has-past = has-from wordPlaces
 
-pub word-ext : (a b : ℕ) → a < 2 ^ 64 → b < 2 ^ 64 → ((i : ℕ) → i < 64 → has a i ≡ has b i) → a ≡ b
-word-ext = same-places 64
+pub word-ext : (a b : ℕ) → a < 2 ^ wordPlaces → b < 2 ^ wordPlaces → ((i : ℕ) → i < wordPlaces → has a i ≡ has b i) → a ≡ b
+word-ext = same-places wordPlaces
 
 pub wordOf-lt : (f : ℕ → Bool) (n : ℕ) → wordOf f n < 2 ^ n
 unfolding wordOf
@@ -54,66 +54,54 @@ pub has-wordOf-in : (f : ℕ → Bool) {n i : ℕ} → i < n → has (wordOf f n
 has-wordOf-in f {n} {i} l = has-wordOf f n i ∙ ap (λ (t : Bool). t && f i) (lt-ltb i n l)
 
 -- how a word that was computed another way is seen to be the one that a definition names
-pub wordOf-is : (f : ℕ → Bool) (w : ℕ) → w < 2 ^ 64 → ((i : ℕ) → i < 64 → has w i ≡ f i) → w ≡ wordOf f 64
-wordOf-is f w l h = word-ext w (wordOf f 64) l (wordOf-lt f 64) (λ i k. h i k ∙ sym (has-wordOf-in f k))
+pub wordOf-is : (f : ℕ → Bool) (w : ℕ) → w < 2 ^ wordPlaces → ((i : ℕ) → i < wordPlaces → has w i ≡ f i) → w ≡ wordOf f wordPlaces
+wordOf-is f w l h = word-ext w (wordOf f wordPlaces) l (wordOf-lt f wordPlaces) (λ i k. h i k ∙ sym (has-wordOf-in f k))
 
 -- ---- the words that are made of words
 
-pub has-with : (w p i : ℕ) → has (with w p) i ≡ (ltb i 64 && (has w i || eqb i p))
+pub has-with : (w p i : ℕ) → has (with w p) i ≡ (ltb i wordPlaces && (has w i || eqb i p))
 unfolding with
-has-with w p = has-wordOf (λ i. has w i || eqb i p) 64
+has-with w p = has-wordOf (λ i. has w i || eqb i p) wordPlaces
 
-pub has-without : (w p i : ℕ) → has (without w p) i ≡ (ltb i 64 && (has w i && not (eqb i p)))
+pub has-without : (w p i : ℕ) → has (without w p) i ≡ (ltb i wordPlaces && (has w i && not (eqb i p)))
 unfolding without
-has-without w p = has-wordOf (λ i. has w i && not (eqb i p)) 64
+has-without w p = has-wordOf (λ i. has w i && not (eqb i p)) wordPlaces
 
-pub has-both : (a b i : ℕ) → has (both a b) i ≡ (ltb i 64 && (has a i && has b i))
-unfolding both
-has-both a b = has-wordOf (λ i. has a i && has b i) 64
-
-pub has-except : (a b i : ℕ) → has (except a b) i ≡ (ltb i 64 && (has a i && not (has b i)))
+pub has-except : (a b i : ℕ) → has (except a b) i ≡ (ltb i wordPlaces && (has a i && not (has b i)))
 unfolding except
-has-except a b = has-wordOf (λ i. has a i && not (has b i)) 64
+has-except a b = has-wordOf (λ i. has a i && not (has b i)) wordPlaces
 
-pub with-lt : (w p : ℕ) → with w p < 2 ^ 64
+pub with-lt : (w p : ℕ) → with w p < 2 ^ wordPlaces
 unfolding with
-with-lt w p = wordOf-lt (λ i. has w i || eqb i p) 64
+with-lt w p = wordOf-lt (λ i. has w i || eqb i p) wordPlaces
 
-pub without-lt : (w p : ℕ) → without w p < 2 ^ 64
-unfolding without
-without-lt w p = wordOf-lt (λ i. has w i && not (eqb i p)) 64
-
-pub both-lt : (a b : ℕ) → both a b < 2 ^ 64
-unfolding both
-both-lt a b = wordOf-lt (λ i. has a i && has b i) 64
-
-pub except-lt : (a b : ℕ) → except a b < 2 ^ 64
+pub except-lt : (a b : ℕ) → except a b < 2 ^ wordPlaces
 unfolding except
-except-lt a b = wordOf-lt (λ i. has a i && not (has b i)) 64
+except-lt a b = wordOf-lt (λ i. has a i && not (has b i)) wordPlaces
 
 -- ---- the same, place by place
 
-pub with-same : (w : ℕ) {p : ℕ} → p < 64 → has (with w p) p ≡ true
+pub with-same : (w : ℕ) {p : ℕ} → p < wordPlaces → has (with w p) p ≡ true
 with-same w {p} l =
-    has-with w p p ∙ ap₂ (λ (s t : Bool). s && (has w p || t)) (lt-ltb p 64 l) (eq-eqb p p refl) ∙ or-true (has w p)
+    has-with w p p ∙ ap₂ (λ (s t : Bool). s && (has w p || t)) (lt-ltb p wordPlaces l) (eq-eqb p p refl) ∙ or-true (has w p)
 
-pub with-other : (w : ℕ) {p i : ℕ} → i < 64 → i ≢ p → has (with w p) i ≡ has w i
+pub with-other : (w : ℕ) {p i : ℕ} → i < wordPlaces → i ≢ p → has (with w p) i ≡ has w i
 with-other w {p} {i} l ne =
-    has-with w p i ∙ ap₂ (λ (s t : Bool). s && (has w i || t)) (lt-ltb i 64 l) (ne-eqb i p ne) ∙ or-false (has w i)
+    has-with w p i ∙ ap₂ (λ (s t : Bool). s && (has w i || t)) (lt-ltb i wordPlaces l) (ne-eqb i p ne) ∙ or-false (has w i)
 
 pub without-same : (w p : ℕ) → has (without w p) p ≡ false
 without-same w p =
     has-without w p p
-    ∙ ap (λ (t : Bool). ltb p 64 && (has w p && not t)) (eq-eqb p p refl)
-    ∙ ap (λ (t : Bool). ltb p 64 && t) (and-false (has w p))
-    ∙ and-false (ltb p 64)
+    ∙ ap (λ (t : Bool). ltb p wordPlaces && (has w p && not t)) (eq-eqb p p refl)
+    ∙ ap (λ (t : Bool). ltb p wordPlaces && t) (and-false (has w p))
+    ∙ and-false (ltb p wordPlaces)
 
-pub without-other : (w : ℕ) {p i : ℕ} → i < 64 → i ≢ p → has (without w p) i ≡ has w i
+pub without-other : (w : ℕ) {p i : ℕ} → i < wordPlaces → i ≢ p → has (without w p) i ≡ has w i
 without-other w {p} {i} l ne =
-    has-without w p i ∙ ap₂ (λ (s t : Bool). s && (has w i && not t)) (lt-ltb i 64 l) (ne-eqb i p ne) ∙ and-true (has w i)
+    has-without w p i ∙ ap₂ (λ (s t : Bool). s && (has w i && not t)) (lt-ltb i wordPlaces l) (ne-eqb i p ne) ∙ and-true (has w i)
 
--- a place past 63 changes no word
-pub with-past : (w p : ℕ) → w < 2 ^ 64 → 64 ≤ p → w ≡ with w p
+-- a place past the last changes no word
+pub with-past : (w p : ℕ) → w < 2 ^ wordPlaces → wordPlaces ≤ p → w ≡ with w p
 unfolding with
 with-past w p h l = wordOf-is (λ i. has w i || eqb i p) w h (λ i k. go (has w i) (eqb i p) (ne-eqb i p (λ q. omega arith)))
   where
@@ -121,7 +109,7 @@ with-past w p h l = wordOf-is (λ i. has w i || eqb i p) w h (λ i k. go (has w 
     go true b e = refl
     go false b e = sym e
 
-pub without-past : (w p : ℕ) → w < 2 ^ 64 → 64 ≤ p → w ≡ without w p
+pub without-past : (w p : ℕ) → w < 2 ^ wordPlaces → wordPlaces ≤ p → w ≡ without w p
 unfolding without
 without-past w p h l = wordOf-is (λ i. has w i && not (eqb i p)) w h (λ i k. go (has w i) (eqb i p) (ne-eqb i p (λ q. omega arith)))
   where
@@ -129,11 +117,11 @@ without-past w p h l = wordOf-is (λ i. has w i && not (eqb i p)) w h (λ i k. g
     go true b e = ap not (sym e)
     go false b e = refl
 
-pub both-at : (a b : ℕ) {i : ℕ} → i < 64 → has (both a b) i ≡ (has a i && has b i)
+pub both-at : (a b : ℕ) {i : ℕ} → i < wordPlaces → has (both a b) i ≡ (has a i && has b i)
 unfolding both
 both-at a b = has-wordOf-in (λ i. has a i && has b i)
 
-pub except-at : (a b : ℕ) {i : ℕ} → i < 64 → has (except a b) i ≡ (has a i && not (has b i))
+pub except-at : (a b : ℕ) {i : ℕ} → i < wordPlaces → has (except a b) i ≡ (has a i && not (has b i))
 unfolding except
 except-at a b = has-wordOf-in (λ i. has a i && not (has b i))
 
@@ -200,21 +188,21 @@ pub lowest-none : (f : ℕ → Bool) (n : ℕ) → ((j : ℕ) → j < n → f j 
 lowest-none f n h = lowest-at f (le-refl n) (λ k. absurd (omega arith)) h
 
 -- the same of a word
-pub lowest-has : (w : ℕ) → lowest w < 64 → has w (lowest w) ≡ true
+pub lowest-has : (w : ℕ) → lowest w < wordPlaces → has w (lowest w) ≡ true
 unfolding lowest
-lowest-has w = lowest-holds (has w) 64
+lowest-has w = lowest-holds (has w) wordPlaces
 
 pub lowest-below : (w : ℕ) {j : ℕ} → j < lowest w → has w j ≡ false
 unfolding lowest
-lowest-below w {j} = lowest-before (has w) 64 j
+lowest-below w {j} = lowest-before (has w) wordPlaces j
 
-pub free-lacks : (w : ℕ) → lowestFree w < 64 → has w (lowestFree w) ≡ false
+pub free-lacks : (w : ℕ) → lowestFree w < wordPlaces → has w (lowestFree w) ≡ false
 unfolding lowestFree
-free-lacks w l = not-true (has w _) (lowest-holds (λ i. not (has w i)) 64 l)
+free-lacks w l = not-true (has w _) (lowest-holds (λ i. not (has w i)) wordPlaces l)
 
 pub free-below : (w : ℕ) {j : ℕ} → j < lowestFree w → has w j ≡ true
 unfolding lowestFree
-free-below w {j} l = not-false (has w j) (lowest-before (λ i. not (has w i)) 64 j l)
+free-below w {j} l = not-false (has w j) (lowest-before (λ i. not (has w i)) wordPlaces j l)
 
 -- ---- how many places pass a test
 
@@ -252,57 +240,27 @@ count-apart f g (suc n) p l h =
         let top : num (f n) ≡ num (g n) = ap num (h n (le-refl (suc n)) (λ q. omega arith)) in
         omega arith
 
-pub count-with : (w : ℕ) {p : ℕ} → p < 64 → has w p ≡ false → count (with w p) ≡ suc (count w)
-unfolding count
-count-with w {p} l e =
-    omega (arith, count-apart (has (with w p)) (has w) 64 p l (λ i k. with-other w k), ap num (with-same w l), ap num e)
-
-pub count-without : (w : ℕ) {p : ℕ} → p < 64 → has w p ≡ true → suc (count (without w p)) ≡ count w
+pub count-without : (w : ℕ) {p : ℕ} → p < wordPlaces → has w p ≡ true → suc (count (without w p)) ≡ count w
 unfolding count
 count-without w {p} l e =
-    omega (arith, count-apart (has (without w p)) (has w) 64 p l (λ i k. without-other w k), ap num (without-same w p), ap num e)
+    omega (arith, count-apart (has (without w p)) (has w) wordPlaces p l (λ i k. without-other w k), ap num (without-same w p), ap num e)
 
 pub count-none : count 0 ≡ 0
 unfolding count countOf has
 count-none = refl
 
--- the places that pass f, by whether they pass g
-pub split-of : (f g : ℕ → Bool) (n : ℕ) → countOf (λ i. f i && g i) n + countOf (λ i. f i && not (g i)) n ≡ countOf f n
-unfolding countOf
-split-of f g zero = refl
-split-of f g (suc n) = omega (arith, split-of f g n, go (f n) (g n))
-  where
-    go : (a b : Bool) → num (a && b) + num (a && not b) ≡ num a
-    go true true = refl
-    go true false = refl
-    go false b = refl
-
-pub count-split : (a b : ℕ) → count (both a b) + count (except a b) ≡ count a
-unfolding count
-count-split a b =
-    let in-both = count-ext (has (both a b)) (λ i. has a i && has b i) 64 (λ i l. both-at a b l) in
-    let in-except = count-ext (has (except a b)) (λ i. has a i && not (has b i)) 64 (λ i l. except-at a b l) in
-    ap₂ (λ (x y : ℕ). x + y) in-both in-except ∙ split-of (has a) (has b) 64
-
--- every place passes where as many pass as there are, and the other way round
-full-all : (f : ℕ → Bool) (n : ℕ) → countOf f n ≡ n → (i : ℕ) → i < n → f i ≡ true
-unfolding countOf
-full-all f zero e i l = absurd (not-suc-le-zero l)
-full-all f (suc n) e i l = go (f n) refl e (count-le f n) (full-all f n)
-  where
-    go : (b : Bool) → f n ≡ b → countOf f n + num b ≡ suc n → countOf f n ≤ n → (countOf f n ≡ n → (j : ℕ) → j < n → f j ≡ true) → f i ≡ true
-    go true q s k rest = ⊎-elim (λ same. ap f same ∙ q) (rest (omega arith) i) (eq-or-lt-of-le (le-of-suc-le-suc l))
-    go false q s k rest = absurd (omega arith)
-
+-- where every place passes, as many pass as there are
 all-full : (f : ℕ → Bool) (n : ℕ) → ((i : ℕ) → i < n → f i ≡ true) → countOf f n ≡ n
 unfolding countOf
 all-full f zero h = refl
 all-full f (suc n) h = omega (arith, all-full f n (λ i l. h i (omega arith)), ap num (h n (le-refl (suc n))))
 
-pub full-free : (w : ℕ) → count w ≡ 64 → lowestFree w ≡ 64
-unfolding count lowestFree
-full-free w e = lowest-none (λ i. not (has w i)) 64 (λ i l. ap not (full-all (has w) 64 e i l))
-
-pub free-full : (w : ℕ) → lowestFree w ≡ 64 → count w ≡ 64
+pub free-full : (w : ℕ) → lowestFree w ≡ wordPlaces → count w ≡ wordPlaces
 unfolding count
-free-full w e = all-full (has w) 64 (λ i l. free-below w (omega arith))
+free-full w e = all-full (has w) wordPlaces (λ i l. free-below w (omega arith))
+
+-- so a word with fewer places than all has a free one
+pub fewer-free : (w : ℕ) → count w < wordPlaces → lowestFree w < wordPlaces
+unfolding lowestFree
+fewer-free w fewer =
+    ⊎-elim (λ full. absurd (omega (arith, free-full w full))) (λ below. below) (eq-or-lt-of-le (lowest-le (λ place. not (has w place)) wordPlaces))

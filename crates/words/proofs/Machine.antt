@@ -1,18 +1,18 @@
 -- What the machine's operations on a word compute to, in terms of places. Assumes nothing.
-use mathlib.Core.Path.{_≡_, refl, sym, ap, ap₂, _∙_}
-use mathlib.Core.Bool.{Bool, true, false, cond, not, _&&_, _||_}
-use Prim.Native.Nat.{ℕ, zero, suc, _-_, _*_, _/_, _%_, _^_, _<_, min, max}
-use native.Mathlib.Nat.{le-of-suc-le-suc, not-suc-le-zero, mod-eq-of-lt, mod-lt, zero-lt-suc}
+use mathlib.Core.Bool.{Bool, _&&_, _||_, cond, false, not, true}
+use mathlib.Core.Path.{_∙_, _≡_, ap, ap₂, refl, sym}
+use Prim.Native.Nat.{_%_, _*_, _-_, _/_, _<_, _^_, max, min, suc, zero, ℕ}
+use native.Mathlib.Nat.{le-of-suc-le-suc, mod-eq-of-lt, mod-lt, not-suc-le-zero, zero-lt-suc}
 use native.Mathlib.Omega.{arith}
-use lib.Dec.{eqb}
 use lib.Arith.{lt-one}
-use lib.Pow.{pow-pos, pow-lt, ones-sub-lt}
-use lib.Bits.{bitAnd, bitOr, and-step, or-step, and-shr, or-shr, and-lt, or-lt, and-mask}
+use lib.Bits.{and-lt, and-mask, and-shr, and-step, bitAnd, bitOr, or-lt, or-shr, or-step}
 use lib.Count.{ones, ones-step, trailingZeros, under}
+use lib.Dec.{eqb}
+use lib.Pow.{ones-sub-lt, pow-lt, pow-pos}
 use Rattle.words.specs.Places.{countOf, lowestOf}
-use Rattle.words.specs.Words.{has, with, without, both, except, lowest, lowestFree, count}
-use Rattle.words.proofs.Digits.{num-injective, has-first, has-next, has-none, has-top}
-use Rattle.words.proofs.Laws.{wordOf-is, count-ext, count-first, lowest-ext}
+use Rattle.words.specs.Words.{both, count, except, has, lowest, lowestFree, with, without, wordPlaces}
+use Rattle.words.proofs.Digits.{has-first, has-next, has-none, has-top, num-injective}
+use Rattle.words.proofs.Laws.{count-ext, count-first, lowest-ext, wordOf-is}
 
 -- ---- the places of what the machine computes
 
@@ -77,8 +77,8 @@ has-power p i =
     go true = refl
     go false = refl
 
-pub shl-one : (p : ℕ) → p < 64 → (1 * 2 ^ p) % 2 ^ 64 ≡ 2 ^ p
-shl-one p l = ap (λ (x : ℕ). x % 2 ^ 64) (omega arith) ∙ mod-eq-of-lt (pow-lt l)
+pub shl-one : (p : ℕ) → p < wordPlaces → (1 * 2 ^ p) % 2 ^ wordPlaces ≡ 2 ^ p
+shl-one p l = ap (λ (x : ℕ). x % 2 ^ wordPlaces) (omega arith) ∙ mod-eq-of-lt (pow-lt l)
 
 -- ---- what each function computes
 
@@ -88,41 +88,41 @@ unfolding has
 has-is w p = ap (λ (x : ℕ). eqb x 1) (and-mask (w / 2 ^ p) 1)
 
 -- `w | (1 << p)`
-pub with-is : (w p : ℕ) → w < 2 ^ 64 → p < 64 → bitOr w ((1 * 2 ^ p) % 2 ^ 64) ≡ with w p
+pub with-is : (w p : ℕ) → w < 2 ^ wordPlaces → p < wordPlaces → bitOr w ((1 * 2 ^ p) % 2 ^ wordPlaces) ≡ with w p
 unfolding with
 with-is w p h l =
     ap (bitOr w) (shl-one p l)
     ∙ wordOf-is
     (λ i. has w i || eqb i p)
     (bitOr w (2 ^ p))
-    (or-lt 64 w (2 ^ p) h (pow-lt l))
+    (or-lt wordPlaces w (2 ^ p) h (pow-lt l))
     (λ i k. has-or w (2 ^ p) i ∙ ap (λ (t : Bool). has w i || t) (has-power p i))
 
 -- `w & !(1 << p)`
-pub without-is : (w p : ℕ) → w < 2 ^ 64 → p < 64 → bitAnd w ((2 ^ 64 - 1) - (1 * 2 ^ p) % 2 ^ 64) ≡ without w p
+pub without-is : (w p : ℕ) → w < 2 ^ wordPlaces → p < wordPlaces → bitAnd w ((2 ^ wordPlaces - 1) - (1 * 2 ^ p) % 2 ^ wordPlaces) ≡ without w p
 unfolding without
 without-is w p h l =
-    ap (λ (x : ℕ). bitAnd w ((2 ^ 64 - 1) - x)) (shl-one p l)
+    ap (λ (x : ℕ). bitAnd w ((2 ^ wordPlaces - 1) - x)) (shl-one p l)
     ∙ wordOf-is
     (λ i. has w i && not (eqb i p))
-    (bitAnd w ((2 ^ 64 - 1) - 2 ^ p))
-    (and-lt 64 w ((2 ^ 64 - 1) - 2 ^ p) h (ones-sub-lt 64 (2 ^ p)))
-    (λ i k. has-and w ((2 ^ 64 - 1) - 2 ^ p) i ∙ ap (λ (t : Bool). has w i && t) (has-not 64 (2 ^ p) i (pow-lt l) k ∙ ap not (has-power p i)))
+    (bitAnd w ((2 ^ wordPlaces - 1) - 2 ^ p))
+    (and-lt wordPlaces w ((2 ^ wordPlaces - 1) - 2 ^ p) h (ones-sub-lt wordPlaces (2 ^ p)))
+    (λ i k. has-and w ((2 ^ wordPlaces - 1) - 2 ^ p) i ∙ ap (λ (t : Bool). has w i && t) (has-not wordPlaces (2 ^ p) i (pow-lt l) k ∙ ap not (has-power p i)))
 
 -- `a & b`
-pub both-is : (a b : ℕ) → a < 2 ^ 64 → b < 2 ^ 64 → bitAnd a b ≡ both a b
+pub both-is : (a b : ℕ) → a < 2 ^ wordPlaces → b < 2 ^ wordPlaces → bitAnd a b ≡ both a b
 unfolding both
-both-is a b h k = wordOf-is (λ i. has a i && has b i) (bitAnd a b) (and-lt 64 a b h k) (λ i l. has-and a b i)
+both-is a b h k = wordOf-is (λ i. has a i && has b i) (bitAnd a b) (and-lt wordPlaces a b h k) (λ i l. has-and a b i)
 
 -- `a & !b`
-pub except-is : (a b : ℕ) → a < 2 ^ 64 → b < 2 ^ 64 → bitAnd a ((2 ^ 64 - 1) - b) ≡ except a b
+pub except-is : (a b : ℕ) → a < 2 ^ wordPlaces → b < 2 ^ wordPlaces → bitAnd a ((2 ^ wordPlaces - 1) - b) ≡ except a b
 unfolding except
 except-is a b h k =
     wordOf-is
     (λ i. has a i && not (has b i))
-    (bitAnd a ((2 ^ 64 - 1) - b))
-    (and-lt 64 a ((2 ^ 64 - 1) - b) h (ones-sub-lt 64 b))
-    (λ i l. has-and a ((2 ^ 64 - 1) - b) i ∙ ap (λ (t : Bool). has a i && t) (has-not 64 b i k l))
+    (bitAnd a ((2 ^ wordPlaces - 1) - b))
+    (and-lt wordPlaces a ((2 ^ wordPlaces - 1) - b) h (ones-sub-lt wordPlaces b))
+    (λ i l. has-and a ((2 ^ wordPlaces - 1) - b) i ∙ ap (λ (t : Bool). has a i && t) (has-not wordPlaces b i k l))
 
 -- the digits of a number below 2 ^ n, counted
 ones-of : (n w : ℕ) → w < 2 ^ n → ones w ≡ countOf (has w) n
@@ -133,9 +133,9 @@ ones-of (suc n) w h =
     omega (arith, ones-step w, has-first w, count-first (has w) n, ones-of n (w / 2) (omega arith))
 
 -- `count_ones(w)`
-pub count-is : (w : ℕ) → w < 2 ^ 64 → ones w ≡ count w
+pub count-is : (w : ℕ) → w < 2 ^ wordPlaces → ones w ≡ count w
 unfolding count
-count-is = ones-of 64
+count-is = ones-of wordPlaces
 
 -- the zeros below the lowest digit that is 1
 trailing-of : (n w : ℕ) → trailingZeros n w ≡ lowestOf (has w) n
@@ -149,12 +149,12 @@ trailing-of (suc n) w =
     go false e q = ap₂ (λ (d x : ℕ). under d x) (sym e) q
 
 -- `trailing_zeros(w)`
-pub lowest-is : (w : ℕ) → trailingZeros 64 w ≡ lowest w
+pub lowest-is : (w : ℕ) → trailingZeros wordPlaces w ≡ lowest w
 unfolding lowest
-lowest-is = trailing-of 64
+lowest-is = trailing-of wordPlaces
 
 -- `trailing_zeros(!w)`
-pub free-is : (w : ℕ) → w < 2 ^ 64 → trailingZeros 64 ((2 ^ 64 - 1) - w) ≡ lowestFree w
+pub free-is : (w : ℕ) → w < 2 ^ wordPlaces → trailingZeros wordPlaces ((2 ^ wordPlaces - 1) - w) ≡ lowestFree w
 unfolding lowestFree
 free-is w h =
-    trailing-of 64 ((2 ^ 64 - 1) - w) ∙ lowest-ext (has ((2 ^ 64 - 1) - w)) (λ i. not (has w i)) 64 (λ i l. has-not 64 w i h l)
+    trailing-of wordPlaces ((2 ^ wordPlaces - 1) - w) ∙ lowest-ext (has ((2 ^ wordPlaces - 1) - w)) (λ i. not (has w i)) wordPlaces (λ i l. has-not wordPlaces w i h l)

@@ -1,18 +1,15 @@
--- A loop over the places of a word, lowest first, and any loop that counts up. Assumes nothing.
-use mathlib.Core.Path.{_≡_, refl, sym, ap, ap₂, _∙_, subst}
+-- A loop over the places of a word, lowest first, is the fold over all its places: the step at the lowest place can be taken beforehand. And any loop
+-- that counts up. Assumes nothing.
+use mathlib.Core.Bool.{Bool, _&&_, cond, false, true}
 use mathlib.Core.Logic.{_≢_, ⊎-elim}
-use mathlib.Core.Bool.{Bool, true, false, cond, _&&_, _||_, or-false}
-use Prim.Native.Nat.{ℕ, zero, suc, _+_, _^_, _≤_, _<_}
-use native.Mathlib.Nat.{le-of-suc-le-suc, not-suc-le-zero, le-refl, le-antisymm, eq-or-lt-of-le}
-use native.Mathlib.Numerals.{add-one}
+use mathlib.Core.Path.{_∙_, _≡_, ap, ap₂, refl, subst, sym}
+use Prim.Native.Nat.{_<_, _≤_, suc, zero, ℕ}
+use native.Mathlib.Nat.{eq-or-lt-of-le, le-of-suc-le-suc, le-refl, not-suc-le-zero}
 use native.Mathlib.Omega.{arith}
-use native.Mathlib.Decide.{decLt, ℕ-discrete}
-use lib.Dec.{eqb, ltb}
-use lib.Pow.{pow-mono}
-use Rattle.words.specs.Places.{foldTo, each, wordOf}
-use Rattle.words.specs.Words.{has, with, without, lowest, count}
-use borrow.Author.Tests.{lt-ltb, le-ltb, eq-eqb, ne-eqb}
-use Rattle.words.proofs.Laws.{lowest-has, lowest-below, without-same, without-other, count-without, with-lt, word-ext, wordOf-lt, has-wordOf, has-with}
+use Rattle.words.specs.Places.{each, foldTo}
+use Rattle.words.specs.Words.{count, has, lowest, without, wordPlaces}
+use Rattle.words.proofs.Laws.{count-without, lowest-below, lowest-has, without-other, without-same}
+use Rattle.words.proofs.YesOrNo.{cond-same}
 
 module _ {B : Type 0} where
   -- a step that is taken at the places of the word alone
@@ -26,14 +23,6 @@ module _ {B : Type 0} where
   fold-ext f g b zero h = refl
   fold-ext f g b (suc n) h =
       ap (f n) (fold-ext f g b n (λ i x l. h i x (omega arith))) ∙ h n (foldTo g b n) (le-refl (suc n))
-
-  -- one turn, in the code's `n + 1`
-  pub fold-next : (f : ℕ → B → B) (b : B) (n : ℕ) {x y : B} → x ≡ foldTo f b n → y ≡ f n x → y ≡ foldTo f b (n + 1)
-  unfolding foldTo
-  fold-next f b n e q = q ∙ ap (f n) e ∙ ap (foldTo f b) (sym (add-one n))
-
-  pub fold-end : (f : ℕ → B → B) (b : B) {i n : ℕ} {x : B} → x ≡ foldTo f b i → i ≤ n → n ≤ i → x ≡ foldTo f b n
-  fold-end f b e l k = e ∙ ap (foldTo f b) (le-antisymm l k)
 
   -- ---- a loop over the places of a word
 
@@ -76,7 +65,7 @@ module _ {B : Type 0} where
 
   -- ---- the loop as the code has it: p is the lowest place of what is left, w, and x what was reached; t is the whole
 
-  each-next : (n : ℕ) (f : ℕ → B → B) (w : ℕ) (x : B) → n ≤ 64 → lowest w < n → each n (has (without w (lowest w))) f (f (lowest w) x) ≡ each n (has w) f x
+  each-next : (n : ℕ) (f : ℕ → B → B) (w : ℕ) (x : B) → n ≤ wordPlaces → lowest w < n → each n (has (without w (lowest w))) f (f (lowest w) x) ≡ each n (has w) f x
   unfolding each
   each-next n f w x m l =
       fold-lowest
@@ -93,7 +82,7 @@ module _ {B : Type 0} where
       l
 
   -- one turn: the step at the lowest place, and on without it
-  pub each-turn : (n : ℕ) (f : ℕ → B → B) (w : ℕ) (x : B) {v p : ℕ} {y t : B} → n ≤ 64 → p < n → p ≡ lowest w → y ≡ f p x → v ≡ without w p → each n (has w) f x ≡ t → each n (has v) f y ≡ t
+  pub each-turn : (n : ℕ) (f : ℕ → B → B) (w : ℕ) (x : B) {v p : ℕ} {y t : B} → n ≤ wordPlaces → p < n → p ≡ lowest w → y ≡ f p x → v ≡ without w p → each n (has w) f x ≡ t → each n (has v) f y ≡ t
   each-turn n f w x {v} {p} m l e step rest whole =
       ap₂ (λ (u : ℕ) (z : B). each n (has u) f z) (rest ∙ ap (without w) e) (step ∙ ap (λ (i : ℕ). f i x) e)
       ∙ each-next n f w x m (rw e at l)
@@ -121,48 +110,46 @@ module _ {B : Type 0} where
   each-ext n f g x a b h k = fold-ext _ _ x n (λ i y l. ap₂ (λ (t : Bool) (z : B). cond t z y) (h i l) (k i y l))
 
 -- the measure of such a loop
-pub each-falls : (w : ℕ) {v p : ℕ} → p < 64 → p ≡ lowest w → v ≡ without w p → count v < count w
+pub each-falls : (w : ℕ) {v p : ℕ} → p < wordPlaces → p ≡ lowest w → v ≡ without w p → count v < count w
 each-falls w {v} {p} l e rest =
-    let except : count (without w (lowest w)) < count w = omega (arith, count-without w (rw e at l) (lowest-has w (rw e at l))) in
-    subst (λ (u : ℕ). count u < count w) (sym (rest ∙ ap (without w) e)) except
+    let fewer : count (without w (lowest w)) < count w = omega (arith, count-without w (rw e at l) (lowest-has w (rw e at l))) in
+    subst (λ (u : ℕ). count u < count w) (sym (rest ∙ ap (without w) e)) fewer
 
--- ---- a word built place by place
+-- ---- what a loop keeps
 
--- the place n joins the places below it
-has-added : (f : ℕ → Bool) (n i : ℕ) → f n ≡ true → ((ltb i n && f i) || eqb i n) ≡ (ltb i (suc n) && f i)
-has-added f n i e = elim (decLt i n) [ yes l ↦ below l | no k ↦ elim (ℕ-discrete i n) [ yes q ↦ here q | no d ↦ above (omega arith) ] ]
+-- what holds at the start, and is kept at each place that passes and at each that does not, holds at the end
+pub each-keeps : {B : Type 0} (P : ℕ → B → Type 0) (test : ℕ → Bool) (step : ℕ → B → B) (b : B)
+    → P 0 b
+    → ((i : ℕ) (x : B) → test i ≡ true → P i x → P (suc i) (step i x))
+    → ((i : ℕ) (x : B) → test i ≡ false → P i x → P (suc i) x)
+    → (n : ℕ) → P n (each n test step b)
+unfolding each foldTo
+each-keeps P test step b start taken passed-over zero = start
+each-keeps P test step b start taken passed-over (suc n) =
+    go (test n) refl (each n test step b) (each-keeps P test step b start taken passed-over n)
   where
-    below : i < n → ((ltb i n && f i) || eqb i n) ≡ (ltb i (suc n) && f i)
-    below l = simp (lt-ltb i n l, lt-ltb i (suc n) (omega arith), ne-eqb i n (λ q. omega arith)) (or-false (f i))
+    go : (passes : Bool) → test n ≡ passes → (x : _) → P n x → P (suc n) (cond passes (step n x) x)
+    go true e x before = taken n x e before
+    go false e x before = passed-over n x e before
 
-    here : i ≡ n → ((ltb i n && f i) || eqb i n) ≡ (ltb i (suc n) && f i)
-    here q = rw q (simp (e, eq-eqb n n refl, le-ltb n n (le-refl n), lt-ltb n (suc n) (le-refl (suc n))))
+-- the places below the next one are this one and those below it
+pub and-this : (P : ℕ → Type 0) {n : ℕ} → P n → ((i : ℕ) → i < n → P i) → (i : ℕ) → i < suc n → P i
+and-this P here earlier i below = ⊎-elim (λ same. subst P (sym same) here) (earlier i) (eq-or-lt-of-le (le-of-suc-le-suc below))
 
-    above : n < i → ((ltb i n && f i) || eqb i n) ≡ (ltb i (suc n) && f i)
-    above l = simp (le-ltb i n (omega arith), le-ltb i (suc n) l, ne-eqb i n (λ q. omega arith))
+-- steps that change nothing
+pub each-same : {B : Type 0} (n : ℕ) (counts : ℕ → Bool) (f : ℕ → B → B) (x : B) → ((i : ℕ) → f i x ≡ x) → each n counts f x ≡ x
+unfolding each foldTo
+each-same zero counts f x same = refl
+each-same {B} (suc n) counts f x same =
+    rw (each-same n counts f x same) (ap (λ (y : B). cond (counts n) y x) (same n) ∙ cond-same (counts n) x)
 
-with-next : (f : ℕ → Bool) (n : ℕ) → n < 64 → f n ≡ true → with (wordOf f n) n ≡ wordOf f (suc n)
-with-next f n l e =
-    word-ext
-    (with (wordOf f n) n)
-    (wordOf f (suc n))
-    (with-lt (wordOf f n) n)
-    (omega (arith, wordOf-lt f (suc n), pow-mono {i = suc n} {j = 64} l))
-    (λ i k. has-with (wordOf f n) n i
-    ∙ ap₂ (λ (s t : Bool). s && (t || eqb i n)) (lt-ltb i 64 k) (has-wordOf f n i)
-    ∙ has-added f n i e
-    ∙ sym (has-wordOf f (suc n) i))
+-- ---- a loop within a loop
 
-without-next : (f : ℕ → Bool) (n : ℕ) → f n ≡ false → wordOf f n ≡ wordOf f (suc n)
-unfolding wordOf
-without-next f n e = rw e (omega arith)
-
--- every place below n that passes is joined to the word in turn
-pub each-with : (n : ℕ) (test : ℕ → Bool) → n ≤ 64 → each n test (λ p w. with w p) 0 ≡ wordOf test n
-unfolding each foldTo wordOf
-each-with zero test l = refl
-each-with (suc n) test l = go (test n) refl (each-with n test (omega arith))
-  where
-    go : (t : Bool) {w : ℕ} → test n ≡ t → w ≡ wordOf test n → cond t (with w n) w ≡ wordOf test n + cond (test n) (2 ^ n) 0
-    go true e q = ap (λ (w : ℕ). with w n) q ∙ with-next test n l e
-    go false e q = q ∙ without-next test n e
+-- the word of the inner loop is empty where the inner loop is not wanted
+pub each-where : {B : Type 0} (n : ℕ) (f : ℕ → B → B) (b : B) (w : ℕ) {wanted : Bool} {v : ℕ} {x : B}
+    → v ≡ cond wanted w 0
+    → x ≡ each n (has v) f b
+    → wanted ≡ true
+    → x ≡ each n (has w) f b
+each-where n f b w {wanted} {v} {x} word result holds =
+    result ∙ ap (λ (u : ℕ). each n (has u) f b) (word ∙ ap (λ (t : Bool). cond t w 0) holds)

@@ -4,34 +4,38 @@ use Prim.Native.Nat.{ℕ, _/_, _%_, _^_}
 use lib.Dec.{eqb}
 use Rattle.words.specs.Places.{countOf, lowestOf, wordOf}
 
+-- a word has the places 0 to 63
+abbrev pub wordPlaces : ℕ
+wordPlaces = 64
+
 -- is place p in the word
 unfoldable pub has : ℕ → ℕ → Bool
 has w p = eqb (w / 2 ^ p % 2) 1
 
--- the word with place p; a place past 63 is ignored
+-- the word with place p; a place past the last is ignored
 unfoldable pub with : ℕ → ℕ → ℕ
-with w p = wordOf (λ i. has w i || eqb i p) 64
+with w p = wordOf (λ i. has w i || eqb i p) wordPlaces
 
 -- the word without place p
 unfoldable pub without : ℕ → ℕ → ℕ
-without w p = wordOf (λ i. has w i && not (eqb i p)) 64
+without w p = wordOf (λ i. has w i && not (eqb i p)) wordPlaces
 
 -- the places that are in both words
 unfoldable pub both : ℕ → ℕ → ℕ
-both a b = wordOf (λ i. has a i && has b i) 64
+both a b = wordOf (λ i. has a i && has b i) wordPlaces
 
 -- the places of a that are not in b
 unfoldable pub except : ℕ → ℕ → ℕ
-except a b = wordOf (λ i. has a i && not (has b i)) 64
+except a b = wordOf (λ i. has a i && not (has b i)) wordPlaces
 
--- the lowest place in the word; 64 where there is none
+-- the lowest place in the word; the number of places where there is none
 unfoldable pub lowest : ℕ → ℕ
-lowest w = lowestOf (has w) 64
+lowest w = lowestOf (has w) wordPlaces
 
--- the lowest place not in the word; 64 where all are
+-- the lowest place not in the word; the number of places where all are
 unfoldable pub lowestFree : ℕ → ℕ
-lowestFree w = lowestOf (λ i. not (has w i)) 64
+lowestFree w = lowestOf (λ i. not (has w i)) wordPlaces
 
 -- how many places are in the word
 unfoldable pub count : ℕ → ℕ
-count w = countOf (has w) 64
+count w = countOf (has w) wordPlaces

@@ -5,7 +5,7 @@ ghost use Rattle.words.specs.Words.{has, with, without, both, except, lo
 // A word has the places 0 to 63.
 const PLACES: u32 = 64;
 
-// Is the place in the word? No place past 63 is.
+// Is the place in the word? No place past the last is.
 pub fn has(word: u64, place: u32) -> bool
     ensures { λ r. ⌜ r ≡ has word place ⌝ }
 {
@@ -15,7 +15,7 @@ pub fn has(word: u64, place: u32) -> bool
     (word >> place) & 1 == 1
 }
 
-// The word with the place; the word itself for a place past 63.
+// The word with the place; the word itself for a place past the last.
 pub fn with(word: u64, place: u32) -> u64
     ensures { λ r. ⌜ r ≡ with word place ⌝ }
 {
@@ -25,7 +25,7 @@ pub fn with(word: u64, place: u32) -> u64
     word | (1 << place)
 }
 
-// The word without the place; the word itself for a place past 63.
+// The word without the place; the word itself for a place past the last.
 pub fn without(word: u64, place: u32) -> u64
     ensures { λ r. ⌜ r ≡ without word place ⌝ }
 {
@@ -49,14 +49,14 @@ pub fn except(a: u64, b: u64) -> u64
     a & !b
 }
 
-// The lowest place in the word; 64 where there is none.
+// The lowest place in the word; the number of places where there is none.
 pub fn lowest(word: u64) -> u32
     ensures { λ r. ⌜ r ≡ lowest word ⌝ }
 {
     u64::trailing_zeros(word)
 }
 
-// The lowest place not in the word; 64 where all are.
+// The lowest place not in the word; the number of places where all are.
 pub fn lowest_free(word: u64) -> u32
     ensures { λ r. ⌜ r ≡ lowestFree word ⌝ }
 {

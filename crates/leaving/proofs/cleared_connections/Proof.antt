@@ -8,7 +8,7 @@ use Rattle.words.specs.Words.{has, lowest, count}
 use Rattle.words.proofs.Walk.{each-turn, each-done, each-falls}
 use Rattle.rows.specs.Numbers.{noConnection}
 use Rattle.rows.specs.Facts.{cleared}
-use Rattle.tables.specs.Tables.{table}
+use Rattle.tables.specs.Tables.{table, connectionPlaces}
 use Rattle.leaving.specs.Leaving.{clearedConnections}
 use Rattle.leaving.proofs.Left.{connections-changed}
 use Rattle.leaving.proofs.Rows.{changed, length-mapped}
@@ -18,7 +18,7 @@ use Rattle.leaving.proofs.cleared_connections.Tie as tie
 -- from every turn on, the walk over what is left leads to the rows wanted
 abbrev Inv-loop : tie.InvT-loop
 Inv-loop attached gone clear₀ rest₀ k₀ clear rest k =
-    (k ≡ lowest rest) × (each 32 (has rest) (changed (λ row. cleared row gone) noConnection) clear ≡ clearedConnections (table attached clear₀) gone)
+    (k ≡ lowest rest) × (each connectionPlaces (has rest) (changed (λ row. cleared row gone) noConnection) clear ≡ clearedConnections (table attached clear₀) gone)
 
 abbrev μ-loop : tie.MeasureT-loop
 μ-loop attached gone clear₀ rest₀ k₀ clear rest k = count rest
@@ -26,7 +26,7 @@ abbrev μ-loop : tie.MeasureT-loop
 loop-holds : tie.Need-loop-holds Inv-loop μ-loop
 loop-holds c =
     let a = c .before .args in
-    let sized : length (a .connections) ≡ 32 = search (length-mapped, needs) in
+    let sized : length (a .connections) ≡ connectionPlaces = search (length-mapped, needs) in
     (c .lowest .ensures, connections-changed (table (a .attached) (a .connections)) _ sized)
 
 loop-less : tie.Need-loop-less Inv-loop μ-loop
@@ -39,12 +39,12 @@ loop-again c =
     let turn = c .before .before .before .before in
     let here = turn .before .loop in
     let row = ap (set (here .clear) (here .k)) (c .before .before .cleared .ensures) in
-    (c .lowest2 .ensures, each-turn 32 _ (here .rest) (here .clear) (omega arith) (turn .loop-test .taken) (here .inv .0) row (c .before .without .ensures) (here .inv .1))
+    (c .lowest2 .ensures, each-turn connectionPlaces _ (here .rest) (here .clear) (omega arith) (turn .loop-test .taken) (here .inv .0) row (c .before .without .ensures) (here .inv .1))
 
 returns : tie.Need-returns Inv-loop μ-loop
 returns c =
     let here = c .before .loop in
-    each-done 32 _ (here .rest) (c .loop-test .left) (here .inv .0) (here .inv .1)
+    each-done connectionPlaces _ (here .rest) (c .loop-test .left) (here .inv .0) (here .inv .1)
 
 pub cleared-connections-spec : {M : Type 1} → statement M
 cleared-connections-spec =

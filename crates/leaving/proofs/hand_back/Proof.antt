@@ -7,6 +7,7 @@ use borrow.Author.Needs.{needs}
 use Rattle.words.specs.Places.{each}
 use Rattle.words.specs.Words.{has, lowest, count}
 use Rattle.words.proofs.Walk.{each-turn, each-done, each-falls}
+use Rattle.tables.specs.Tables.{itemPlaces}
 use Rattle.leaving.specs.Leaving.{firstOf}
 use Rattle.tables.specs.Search.{chosen}
 use Rattle.leaving.proofs.Left.{firstStep, handed, handed-turn, handed-done, handed-back, handed-short}
@@ -15,7 +16,7 @@ use Rattle.leaving.proofs.hand_back.Tie as tie
 
 abbrev Inv-loop2 : tie.InvT-loop2
 Inv-loop2 gone slice items n places i found₀ rest₀ p₀ found rest p =
-    (p ≡ lowest rest) × (each 64 (has rest) (firstStep items) found ≡ each 64 (has rest₀) (firstStep items) found₀)
+    (p ≡ lowest rest) × (each itemPlaces (has rest) (firstStep items) found ≡ each itemPlaces (has rest₀) (firstStep items) found₀)
 
 abbrev μ-loop2 : tie.MeasureT-loop2
 μ-loop2 gone slice items n places i found₀ rest₀ p₀ found rest p = count rest
@@ -27,41 +28,14 @@ Inv-loop gone slice₀ items n places₀ i₀ slice places i =
 abbrev μ-loop : tie.MeasureT-loop
 μ-loop gone slice₀ items n places₀ i₀ slice places i = n - i
 
-count-requires : tie.Need-count-requires Inv-loop2 μ-loop2 Inv-loop μ-loop
-count-requires c κs = search needs
-
-cast-n : tie.Need-cast-n Inv-loop2 μ-loop2 Inv-loop μ-loop
-cast-n c = search needs
-
 returns : tie.Need-returns Inv-loop2 μ-loop2 Inv-loop μ-loop
 returns c = handed-short _ _ _ (c .before .count .ensures) (c .if1 .taken)
 
 loop-holds : tie.Need-loop-holds Inv-loop2 μ-loop2 Inv-loop μ-loop
 loop-holds c = (omega arith, refl, refl)
 
-lowest-requires : tie.Need-lowest-requires Inv-loop2 μ-loop2 Inv-loop μ-loop
-lowest-requires c κs = search needs
-
 loop2-holds : tie.Need-loop2-holds Inv-loop2 μ-loop2 Inv-loop μ-loop
 loop2-holds c = (c .lowest .ensures, refl)
-
-cast-item : tie.Need-cast-item Inv-loop2 μ-loop2 Inv-loop μ-loop
-cast-item c = search needs
-
-mul-item : tie.Need-mul-item Inv-loop2 μ-loop2 Inv-loop μ-loop
-mul-item c = search needs
-
-array-copy-out-item : tie.Need-array-copy-out-item Inv-loop2 μ-loop2 Inv-loop μ-loop
-array-copy-out-item c = search needs
-
-or-before-requires : tie.Need-or-before-requires Inv-loop2 μ-loop2 Inv-loop μ-loop
-or-before-requires c κs = search needs
-
-without-requires : tie.Need-without-requires Inv-loop2 μ-loop2 Inv-loop μ-loop
-without-requires c κs = search needs
-
-lowest-requires-2 : tie.Need-lowest-requires-2 Inv-loop2 μ-loop2 Inv-loop μ-loop
-lowest-requires-2 c κs = search needs
 
 loop2-less : tie.Need-loop2-less Inv-loop2 μ-loop2 Inv-loop μ-loop
 loop2-less c =
@@ -72,25 +46,7 @@ loop2-again : tie.Need-loop2-again Inv-loop2 μ-loop2 Inv-loop μ-loop
 loop2-again c =
     let turn = c .before .before .before .before in
     let here = turn .before .loop2 in
-    (c .lowest2 .ensures, each-turn 64 _ (here .rest) (here .found) (omega arith) (turn .loop2-test .taken) (here .inv .0) (c .before .before .or-before .ensures) (c .before .without .ensures) (here .inv .1))
-
-ticket-requires : tie.Need-ticket-requires Inv-loop2 μ-loop2 Inv-loop μ-loop
-ticket-requires c κs = search needs
-
-mul-slice : tie.Need-mul-slice Inv-loop2 μ-loop2 Inv-loop μ-loop
-mul-slice c = search needs
-
-slice-write-slice : tie.Need-slice-write-slice Inv-loop2 μ-loop2 Inv-loop μ-loop
-slice-write-slice c = search needs
-
-taken-from-requires : tie.Need-taken-from-requires Inv-loop2 μ-loop2 Inv-loop μ-loop
-taken-from-requires c κs = search needs
-
-add-i : tie.Need-add-i Inv-loop2 μ-loop2 Inv-loop μ-loop
-add-i c = search needs
-
-loop-less : tie.Need-loop-less Inv-loop2 μ-loop2 Inv-loop μ-loop
-loop-less c = search needs
+    (c .lowest2 .ensures, each-turn itemPlaces _ (here .rest) (here .found) (omega arith) (turn .loop2-test .taken) (here .inv .0) (c .before .before .or-before .ensures) (c .before .without .ensures) (here .inv .1))
 
 loop-again : tie.Need-loop-again Inv-loop2 μ-loop2 Inv-loop μ-loop
 unfolding firstOf chosen
@@ -98,7 +54,7 @@ loop-again c =
     let turn = c .before .before .before .before .before in
     let here = turn .before .loop in
     let inner = c .before .before .before .loop2 in
-    let first = each-done 64 _ (inner .rest) (c .before .before .loop2-test .left) (inner .inv .0) (inner .inv .1) in
+    let first = each-done itemPlaces _ (inner .rest) (c .before .before .loop2-test .left) (inner .inv .0) (inner .inv .1) in
     (omega arith, simp length-set (here .inv .1), handed-turn _ _ (here .i) (here .slice) (here .places) (turn .loop-test .taken) first (c .before .ticket .ensures) (c .taken-from .ensures) (here .inv .2))
 
 same-length : tie.Need-same-length Inv-loop2 μ-loop2 Inv-loop μ-loop
@@ -117,26 +73,26 @@ hand-back-spec =
     μ-loop2
     Inv-loop
     μ-loop
-    count-requires
-    cast-n
+    (λ c κs. search needs)
+    (λ c. search needs)
     returns
     loop-holds
-    lowest-requires
+    (λ c κs. search needs)
     loop2-holds
-    cast-item
-    mul-item
-    array-copy-out-item
-    or-before-requires
-    without-requires
-    lowest-requires-2
+    (λ c. search needs)
+    (λ c. search needs)
+    (λ c. search needs)
+    (λ c κs. search needs)
+    (λ c κs. search needs)
+    (λ c κs. search needs)
     loop2-less
     loop2-again
-    ticket-requires
-    mul-slice
-    slice-write-slice
-    taken-from-requires
-    add-i
-    loop-less
+    (λ c κs. search needs)
+    (λ c. search needs)
+    (λ c. search needs)
+    (λ c κs. search needs)
+    (λ c. search needs)
+    (λ c. search needs)
     loop-again
     same-length
     returns-2)

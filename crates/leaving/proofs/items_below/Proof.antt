@@ -12,9 +12,9 @@ use Rattle.words.specs.Words.{has, count, lowest}
 use Rattle.words.proofs.Walk.{each-turn, each-done, each-falls}
 use Rattle.rows.specs.declared.Item.{Item}
 use Rattle.rows.specs.Numbers.{noItem}
-use Rattle.tables.specs.Tables.{table}
+use Rattle.tables.specs.Tables.{table, itemPlaces}
 use Rattle.leaving.specs.Leaving.{isBelow, itemsBelow}
-use Rattle.tables.proofs.Used.{gathered, gathered-all}
+use Rattle.words.proofs.Gathered.{gathered, gathered-all}
 use Rattle.leaving.proofs.items_below.Statement.{statement}
 use Rattle.leaving.proofs.items_below.Tie as tie
 
@@ -22,40 +22,19 @@ use Rattle.leaving.proofs.items_below.Tie as tie
 is-below : List Item → ℕ → ℕ → Bool
 is-below items bound p = ltb (getD items p noItem .timestamp) bound
 
-whole : (items : List Item) (present bound : ℕ) → each 64 (has present) (gathered (is-below items bound)) 0 ≡ itemsBelow (table present items) bound
+whole : (items : List Item) (present bound : ℕ) → each itemPlaces (has present) (gathered (is-below items bound)) 0 ≡ itemsBelow (table present items) bound
 unfolding itemsBelow isBelow is-below
-whole items present bound = gathered-all 64 present (isBelow (table present items) bound) (is-below items bound) (omega arith) (λ p inside. refl)
+whole items present bound = gathered-all itemPlaces present (isBelow (table present items) bound) (is-below items bound) (omega arith) (λ p inside. refl)
 
 abbrev Inv-loop : tie.InvT-loop
 Inv-loop present bound items gone₀ rest₀ p₀ gone rest p =
-    (p ≡ lowest rest) × (each 64 (has rest) (gathered (is-below items bound)) gone ≡ itemsBelow (table present items) bound)
+    (p ≡ lowest rest) × (each itemPlaces (has rest) (gathered (is-below items bound)) gone ≡ itemsBelow (table present items) bound)
 
 abbrev μ-loop : tie.MeasureT-loop
 μ-loop present bound items gone₀ rest₀ p₀ gone rest p = count rest
 
-lowest-requires : tie.Need-lowest-requires Inv-loop μ-loop
-lowest-requires c κs = search needs
-
 loop-holds : tie.Need-loop-holds Inv-loop μ-loop
 loop-holds c = (c .lowest .ensures, whole (c .before .args .t1) (c .before .args .present) (c .before .args .bound))
-
-cast-item : tie.Need-cast-item Inv-loop μ-loop
-cast-item c = search needs
-
-mul-item : tie.Need-mul-item Inv-loop μ-loop
-mul-item c = search needs
-
-array-copy-out-item : tie.Need-array-copy-out-item Inv-loop μ-loop
-array-copy-out-item c = search needs
-
-with-if-requires : tie.Need-with-if-requires Inv-loop μ-loop
-with-if-requires c κs = search needs
-
-without-requires : tie.Need-without-requires Inv-loop μ-loop
-without-requires c κs = search needs
-
-lowest-requires-2 : tie.Need-lowest-requires-2 Inv-loop μ-loop
-lowest-requires-2 c κs = search needs
 
 loop-less : tie.Need-loop-less Inv-loop μ-loop
 loop-less c =
@@ -70,7 +49,7 @@ loop-again c =
     let args = at .before .before .args in (
       c .lowest2 .ensures,
       each-turn
-          64
+          itemPlaces
           (gathered (is-below (args .t1) (args .bound)))
           (at .loop .rest)
           (at .loop .gone)
@@ -84,7 +63,7 @@ loop-again c =
 
 returns : tie.Need-returns Inv-loop μ-loop
 returns c =
-    each-done 64 _ (c .before .loop .rest) (c .loop-test .left) (c .before .loop .inv .0) (c .before .loop .inv .1)
+    each-done itemPlaces _ (c .before .loop .rest) (c .loop-test .left) (c .before .loop .inv .0) (c .before .loop .inv .1)
 
 pub items-below-spec : {M : Type 1} → statement M
 items-below-spec =
@@ -92,14 +71,14 @@ items-below-spec =
     (tie.spec
     Inv-loop
     μ-loop
-    lowest-requires
+    (λ c κs. search needs)
     loop-holds
-    cast-item
-    mul-item
-    array-copy-out-item
-    with-if-requires
-    without-requires
-    lowest-requires-2
+    (λ c. search needs)
+    (λ c. search needs)
+    (λ c. search needs)
+    (λ c κs. search needs)
+    (λ c κs. search needs)
+    (λ c κs. search needs)
     loop-less
     loop-again
     returns)

@@ -12,9 +12,10 @@ use Rattle.words.specs.Words.{has, count, lowest}
 use Rattle.words.proofs.Walk.{each-turn, each-done, each-falls}
 use Rattle.rows.specs.declared.Connection.{Connection}
 use Rattle.rows.specs.Numbers.{noConnection}
-use Rattle.tables.specs.Tables.{table, owns}
+use Rattle.tables.specs.Tables.{table, owns, connectionPlaces}
 use Rattle.leaving.specs.Leaving.{ownedBy}
-use Rattle.tables.proofs.Used.{used-below, gathered, gathered-all}
+use Rattle.words.proofs.Gathered.{gathered, gathered-all}
+use Rattle.tables.proofs.Used.{used-below}
 use Rattle.leaving.proofs.owned_by.Statement.{statement}
 use Rattle.leaving.proofs.owned_by.Tie as tie
 
@@ -22,42 +23,21 @@ use Rattle.leaving.proofs.owned_by.Tie as tie
 is-owned : List Connection → ℕ → ℕ → Bool
 is-owned connections thread k = eqb (getD connections k noConnection .thread) thread
 
-whole : (connections : List Connection) (attached thread : ℕ) → each 32 (has attached) (gathered (is-owned connections thread)) 0 ≡ ownedBy (table attached connections) thread
+whole : (connections : List Connection) (attached thread : ℕ) → each connectionPlaces (has attached) (gathered (is-owned connections thread)) 0 ≡ ownedBy (table attached connections) thread
 unfolding ownedBy owns is-owned
 whole connections attached thread =
-    gathered-all 32 attached (owns (table attached connections) thread) (is-owned connections thread) (omega arith)
+    gathered-all connectionPlaces attached (owns (table attached connections) thread) (is-owned connections thread) (omega arith)
     (λ k inside. ap (λ (b : Bool). b && is-owned connections thread k) (used-below attached inside))
 
 abbrev Inv-loop : tie.InvT-loop
 Inv-loop attached thread connections gone₀ rest₀ k₀ gone rest k =
-    (k ≡ lowest rest) × (each 32 (has rest) (gathered (is-owned connections thread)) gone ≡ ownedBy (table attached connections) thread)
+    (k ≡ lowest rest) × (each connectionPlaces (has rest) (gathered (is-owned connections thread)) gone ≡ ownedBy (table attached connections) thread)
 
 abbrev μ-loop : tie.MeasureT-loop
 μ-loop attached thread connections gone₀ rest₀ k₀ gone rest k = count rest
 
-lowest-requires : tie.Need-lowest-requires Inv-loop μ-loop
-lowest-requires c κs = search needs
-
 loop-holds : tie.Need-loop-holds Inv-loop μ-loop
 loop-holds c = (c .lowest .ensures, whole (c .before .args .t1) (c .before .args .attached) (c .before .args .thread))
-
-cast-connection : tie.Need-cast-connection Inv-loop μ-loop
-cast-connection c = search needs
-
-mul-connection : tie.Need-mul-connection Inv-loop μ-loop
-mul-connection c = search needs
-
-array-copy-out-connection : tie.Need-array-copy-out-connection Inv-loop μ-loop
-array-copy-out-connection c = search needs
-
-with-if-requires : tie.Need-with-if-requires Inv-loop μ-loop
-with-if-requires c κs = search needs
-
-without-requires : tie.Need-without-requires Inv-loop μ-loop
-without-requires c κs = search needs
-
-lowest-requires-2 : tie.Need-lowest-requires-2 Inv-loop μ-loop
-lowest-requires-2 c κs = search needs
 
 loop-less : tie.Need-loop-less Inv-loop μ-loop
 loop-less c =
@@ -72,7 +52,7 @@ loop-again c =
     let args = at .before .before .args in (
       c .lowest2 .ensures,
       each-turn
-          32
+          connectionPlaces
           (gathered (is-owned (args .t1) (args .thread)))
           (at .loop .rest)
           (at .loop .gone)
@@ -86,7 +66,7 @@ loop-again c =
 
 returns : tie.Need-returns Inv-loop μ-loop
 returns c =
-    each-done 32 _ (c .before .loop .rest) (c .loop-test .left) (c .before .loop .inv .0) (c .before .loop .inv .1)
+    each-done connectionPlaces _ (c .before .loop .rest) (c .loop-test .left) (c .before .loop .inv .0) (c .before .loop .inv .1)
 
 pub owned-by-spec : {M : Type 1} → statement M
 owned-by-spec =
@@ -94,14 +74,14 @@ owned-by-spec =
     (tie.spec
     Inv-loop
     μ-loop
-    lowest-requires
+    (λ c κs. search needs)
     loop-holds
-    cast-connection
-    mul-connection
-    array-copy-out-connection
-    with-if-requires
-    without-requires
-    lowest-requires-2
+    (λ c. search needs)
+    (λ c. search needs)
+    (λ c. search needs)
+    (λ c κs. search needs)
+    (λ c κs. search needs)
+    (λ c κs. search needs)
     loop-less
     loop-again
     returns)

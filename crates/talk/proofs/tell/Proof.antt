@@ -44,27 +44,6 @@ used-below c =
     let used : c .feed .result .used ≤ length (left c) = used-fits (left c) (at .now) (length (at .out)) (c .feed .ensures .0) in
     omega (arith, used, length-take (length part - at .from) (drop (at .from) part), length-drop (at .from) part)
 
-loop-holds : tie.Need-loop-holds Inv-loop μ-loop
-loop-holds c = search needs
-
-sub-feed : tie.Need-sub-feed Inv-loop μ-loop
-sub-feed c = search needs
-
-part-feed-start : tie.Need-part-feed-start Inv-loop μ-loop
-part-feed-start c = search needs
-
-part-feed-end : tie.Need-part-feed-end Inv-loop μ-loop
-part-feed-end c = search needs
-
-feed-requires : tie.Need-feed-requires Inv-loop μ-loop
-feed-requires c κs = search needs
-
-same-length : tie.Need-same-length Inv-loop μ-loop
-same-length c = search needs
-
-returns : tie.Need-returns Inv-loop μ-loop
-returns c = search needs
-
 add-from : tie.Need-add-from Inv-loop μ-loop
 add-from c = omega (arith, used-below (c .before .before .before .before .before .before))
 
@@ -74,28 +53,10 @@ slice-reshare-prefix-write-all c = written-below (c .before .before .before .bef
 slice-aggregate-write-all : tie.Need-slice-aggregate-write-all Inv-loop μ-loop
 slice-aggregate-write-all c = sym (length-take-le _ _ (written-below (c .before .before .before .before .before .before .before)))
 
-write-all-requires : tie.Need-write-all-requires Inv-loop μ-loop
-write-all-requires c κs = search needs
-
-same-length-2 : tie.Need-same-length-2 Inv-loop μ-loop
-same-length-2 c = search needs
-
-returns-2 : tie.Need-returns-2 Inv-loop μ-loop
-returns-2 c = search needs
-
-loop-less : tie.Need-loop-less Inv-loop μ-loop
-loop-less c = search needs
-
 loop-again : tie.Need-loop-again Inv-loop μ-loop
 loop-again c =
     let fed = c .before .before .before .before .before .before .before .before .before in
     (used-below fed, fed .feed .kept .1 .1 .0 ∙ fed .before .before .before .before .loop .inv .1)
-
-same-length-3 : tie.Need-same-length-3 Inv-loop μ-loop
-same-length-3 c = search needs
-
-returns-3 : tie.Need-returns-3 Inv-loop μ-loop
-returns-3 c = search needs
 
 pub tell-spec : {M : Type 1} → statement M
 tell-spec =
@@ -103,20 +64,20 @@ tell-spec =
     (tie.spec
     Inv-loop
     μ-loop
-    loop-holds
-    sub-feed
-    part-feed-start
-    part-feed-end
-    feed-requires
-    same-length
-    returns
+    (λ c. search needs)
+    (λ c. search needs)
+    (λ c. search needs)
+    (λ c. search needs)
+    (λ c κs. search needs)
+    (λ c. search needs)
+    (λ c. search needs)
     add-from
     slice-reshare-prefix-write-all
     slice-aggregate-write-all
-    write-all-requires
-    same-length-2
-    returns-2
-    loop-less
+    (λ c κs. search needs)
+    (λ c. search needs)
+    (λ c. search needs)
+    (λ c. search needs)
     loop-again
-    same-length-3
-    returns-3)
+    (λ c. search needs)
+    (λ c. search needs))

@@ -19,9 +19,6 @@ Inv-loop out₀ at number end rest₀ place₀ out rest place =
 abbrev μ-loop : tie.MeasureT-loop
 μ-loop out₀ at number end rest₀ place₀ out rest place = place
 
-digit-count-requires : tie.Need-digit-count-requires Inv-loop μ-loop
-digit-count-requires c κs = search needs
-
 add-end : tie.Need-add-end Inv-loop μ-loop
 add-end c = omega (arith, decimal-length (c .before .before .args .number))
 
@@ -76,7 +73,7 @@ write-number-spec =
     (tie.spec
     Inv-loop
     μ-loop
-    digit-count-requires
+    (λ c κs. search needs)
     add-end
     loop-holds
     sub-place

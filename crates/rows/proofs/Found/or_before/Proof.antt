@@ -7,9 +7,6 @@ use Rattle.rows.proofs.Found.or_before.Tie as tie
 returns : tie.Need-returns
 returns c = simp (c .before .before .before .self .given .1, sym (c .before .comes-before .ensures) ∙ c .if1 .taken)
 
-enum-told : tie.Need-enum-told
-enum-told c = search needs
-
 returns-2 : tie.Need-returns-2
 returns-2 c = simp (c .before .before .before .self .given .1, sym (c .before .comes-before .ensures) ∙ c .if1 .left)
 
@@ -18,4 +15,4 @@ returns-3 c = rw (c .enum-told .given .1)
 
 pub or-before-spec : {M : Type 1} → statement M
 or-before-spec =
-    tie.close (tie.spec (λ c. search needs) (λ c κs. search needs) returns enum-told returns-2 returns-3)
+    tie.close (tie.spec (λ c. search needs) (λ c κs. search needs) returns (λ c. search needs) returns-2 returns-3)

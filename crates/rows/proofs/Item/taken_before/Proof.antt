@@ -3,9 +3,6 @@ use borrow.Author.Needs.{needs}
 use Rattle.rows.proofs.Item.taken_before.Statement.{statement}
 use Rattle.rows.proofs.Item.taken_before.Tie as tie
 
-enum-told : tie.Need-enum-told
-enum-told c = search needs
-
 returns : tie.Need-returns
 returns c = rw (c .before .before .enum-told .given .1)
 
@@ -13,4 +10,4 @@ returns-2 : tie.Need-returns-2
 returns-2 c = rw (c .before .before .enum-told2 .given .1)
 
 pub taken-before-spec : {M : Type 1} → statement M
-taken-before-spec = tie.close (tie.spec enum-told (λ c. search needs) (λ c. search needs) returns returns-2 (λ c. search needs))
+taken-before-spec = tie.close (tie.spec (λ c. search needs) (λ c. search needs) (λ c. search needs) returns returns-2 (λ c. search needs))

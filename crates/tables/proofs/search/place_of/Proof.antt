@@ -15,7 +15,7 @@ use Rattle.rows.specs.Numbers.{noItem}
 use Rattle.rows.proofs.Laws.{and-both}
 use Rattle.tables.specs.Tables.{table}
 use Rattle.tables.specs.Seen.{isItem, placeOf}
-use Rattle.tables.proofs.Lowest.{lowestIn, search-here, search-turn, search-done}
+use Rattle.words.proofs.Search.{lowestIn, search-here, search-turn, search-done}
 use Rattle.tables.proofs.search.place_of.Statement.{statement}
 use Rattle.tables.proofs.search.place_of.Tie as tie
 
@@ -31,21 +31,9 @@ Inv-loop present channel timestamp items rest₀ p₀ rest p =
 abbrev μ-loop : tie.MeasureT-loop
 μ-loop present channel timestamp items rest₀ p₀ rest p = count rest
 
-lowest-requires : tie.Need-lowest-requires Inv-loop μ-loop
-lowest-requires c κs = search needs
-
 loop-holds : tie.Need-loop-holds Inv-loop μ-loop
 unfolding placeOf isItem is-it
 loop-holds c = (c .lowest .ensures, refl)
-
-cast-item : tie.Need-cast-item Inv-loop μ-loop
-cast-item c = search needs
-
-mul-item : tie.Need-mul-item Inv-loop μ-loop
-mul-item c = search needs
-
-array-copy-out-item : tie.Need-array-copy-out-item Inv-loop μ-loop
-array-copy-out-item c = search needs
 
 returns : tie.Need-returns Inv-loop μ-loop
 unfolding is-it
@@ -60,12 +48,6 @@ returns c =
     (at .inv .0)
     (and-both (eq-eqb _ _ (c .if2 .taken)) (eq-eqb _ _ (same-time .if1 .taken)))
     (at .inv .1)
-
-without-requires : tie.Need-without-requires Inv-loop μ-loop
-without-requires c κs = search needs
-
-lowest-requires-2 : tie.Need-lowest-requires-2 Inv-loop μ-loop
-lowest-requires-2 c κs = search needs
 
 loop-less : tie.Need-loop-less Inv-loop μ-loop
 loop-less c =
@@ -99,14 +81,14 @@ place-of-spec =
     (tie.spec
     Inv-loop
     μ-loop
-    lowest-requires
+    (λ c κs. search needs)
     loop-holds
-    cast-item
-    mul-item
-    array-copy-out-item
+    (λ c. search needs)
+    (λ c. search needs)
+    (λ c. search needs)
     returns
-    without-requires
-    lowest-requires-2
+    (λ c κs. search needs)
+    (λ c κs. search needs)
     loop-less
     loop-again
     returns-2)

@@ -19,8 +19,8 @@ use Rattle.calls.specs.declared.Which.{Which}
 use Rattle.rows.specs.Choices.{preferred, takenBefore}
 use Rattle.rows.specs.Numbers.{noItem}
 use Rattle.rows.specs.States.{lookedAt}
-use Rattle.rows.proofs.Laws.{unseen-is}
-use Rattle.tables.specs.Tables.{table}
+use Rattle.rows.proofs.Seen.{unseen-is}
+use Rattle.tables.specs.Tables.{table, itemPlaces}
 use Rattle.tables.specs.Seen.{lies, isUnseenAt}
 use Rattle.tables.specs.Search.{chosen, isWanted, sought}
 use Rattle.tables.proofs.search.seek.Statement.{statement}
@@ -48,7 +48,7 @@ module _ (items : List Item) (connection : Connection) (which : Which) where
   step : ℕ → Found → Found
   step p found = cond (tried-at p) (preferred (takenBefore which) found p (getD items p noItem)) found
 
-  counts : (present p : ℕ) → p < 64
+  counts : (present p : ℕ) → p < itemPlaces
       → (isUnseenAt (table present items) connection p && isWanted which (getD items p noItem)) ≡ (has (unseen present connection) p && tried-at p)
   unfolding isUnseenAt lies lookedAt unseen tried-at
   counts present p inside =
@@ -76,51 +76,24 @@ module _ (items : List Item) (connection : Connection) (which : Which) where
   idle-turn p found idle =
       ap (λ (b : Bool). cond b (preferred (takenBefore which) found p (getD items p noItem)) found) (sym idle)
 
-  whole : (present : ℕ) → each 64 (has (unseen present connection)) step Nothing ≡ sought (table present items) connection which
+  whole : (present : ℕ) → each itemPlaces (has (unseen present connection)) step Nothing ≡ sought (table present items) connection which
   unfolding sought chosen step
-  whole present = sym (each-and 64 _ Nothing _ (has (unseen present connection)) tried-at (counts present))
+  whole present = sym (each-and itemPlaces _ Nothing _ (has (unseen present connection)) tried-at (counts present))
 
 abbrev Inv-loop : tie.InvT-loop
 Inv-loop present connection which items found₀ rest₀ p₀ found rest p =
-    (p ≡ lowest rest) × (each 64 (has rest) (step items connection which) found ≡ sought (table present items) connection which)
+    (p ≡ lowest rest) × (each itemPlaces (has rest) (step items connection which) found ≡ sought (table present items) connection which)
 
 abbrev μ-loop : tie.MeasureT-loop
 μ-loop present connection which items found₀ rest₀ p₀ found rest p = count rest
-
-unseen-places-requires : tie.Need-unseen-places-requires Inv-loop μ-loop
-unseen-places-requires c κs = search needs
-
-lowest-requires : tie.Need-lowest-requires Inv-loop μ-loop
-lowest-requires c κs = search needs
 
 loop-holds : tie.Need-loop-holds Inv-loop μ-loop
 unfolding unseen
 loop-holds c =
     let args = c .before .before .args in
     let turns = step (args .t1) (args .connection) (args .which) in
-    let started = ap (λ (w : ℕ). each 64 (has w) turns Nothing) (c .before .unseen-places .ensures) in
+    let started = ap (λ (w : ℕ). each itemPlaces (has w) turns Nothing) (c .before .unseen-places .ensures) in
     (c .lowest .ensures, started ∙ whole (args .t1) (args .connection) (args .which) (args .present))
-
-cast-item : tie.Need-cast-item Inv-loop μ-loop
-cast-item c = search needs
-
-mul-item : tie.Need-mul-item Inv-loop μ-loop
-mul-item c = search needs
-
-array-copy-out-item : tie.Need-array-copy-out-item Inv-loop μ-loop
-array-copy-out-item c = search needs
-
-without-requires : tie.Need-without-requires Inv-loop μ-loop
-without-requires c κs = search needs
-
-lowest-requires-2 : tie.Need-lowest-requires-2 Inv-loop μ-loop
-lowest-requires-2 c κs = search needs
-
-is-tried-requires : tie.Need-is-tried-requires Inv-loop μ-loop
-is-tried-requires c κs = search needs
-
-or-taken-requires : tie.Need-or-taken-requires Inv-loop μ-loop
-or-taken-requires c κs = search needs
 
 -- whatever the turn found, fewer places are left
 fewer : (c : tie.After-lowest2 Inv-loop μ-loop) → count (c .before .without .result) < count (c .before .before .before .before .loop .rest)
@@ -133,14 +106,14 @@ again : (c : tie.After-lowest2 Inv-loop μ-loop) {next : Found}
     → (let turn = c .before .before .before .before in let args = turn .before .before .before .args in next ≡ step (args .t1) (args .connection) (args .which) (turn .loop .p) (turn .loop .found))
     → (let args = c .before .before .before .before .before .before .before .args in
     (c .lowest2 .result ≡ lowest (c .before .without .result))
-    × (each 64 (has (c .before .without .result)) (step (args .t1) (args .connection) (args .which)) next ≡ sought (table (args .present) (args .t1)) (args .connection) (args .which)))
+    × (each itemPlaces (has (c .before .without .result)) (step (args .t1) (args .connection) (args .which)) next ≡ sought (table (args .present) (args .t1)) (args .connection) (args .which)))
 again c stepped =
     let turn = c .before .before .before in
     let at = turn .before in
     let args = at .before .before .before .args in (
       c .lowest2 .ensures,
       each-turn
-          64
+          itemPlaces
           (step (args .t1) (args .connection) (args .which))
           (at .loop .rest)
           (at .loop .found)
@@ -171,7 +144,7 @@ loop-again-2 c =
 
 returns : tie.Need-returns Inv-loop μ-loop
 returns c =
-    each-done 64 _ (c .before .loop .rest) (c .loop-test .left) (c .before .loop .inv .0) (c .before .loop .inv .1)
+    each-done itemPlaces _ (c .before .loop .rest) (c .loop-test .left) (c .before .loop .inv .0) (c .before .loop .inv .1)
 
 pub seek-spec : {M : Type 1} → statement M
 seek-spec =
@@ -179,16 +152,16 @@ seek-spec =
     (tie.spec
     Inv-loop
     μ-loop
-    unseen-places-requires
-    lowest-requires
+    (λ c κs. search needs)
+    (λ c κs. search needs)
     loop-holds
-    cast-item
-    mul-item
-    array-copy-out-item
-    without-requires
-    lowest-requires-2
-    is-tried-requires
-    or-taken-requires
+    (λ c. search needs)
+    (λ c. search needs)
+    (λ c. search needs)
+    (λ c κs. search needs)
+    (λ c κs. search needs)
+    (λ c κs. search needs)
+    (λ c κs. search needs)
     loop-less
     loop-again
     loop-less-2

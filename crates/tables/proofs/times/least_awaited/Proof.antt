@@ -7,72 +7,30 @@ use Rattle.words.specs.Places.{each}
 use Rattle.words.specs.Words.{has, lowest, count}
 use Rattle.words.proofs.Walk.{each-turn, each-done, each-falls}
 use Rattle.rows.specs.Numbers.{noItem}
-use Rattle.tables.specs.Tables.{table}
+use Rattle.tables.specs.Tables.{table, connectionPlaces, itemPlaces}
 use Rattle.tables.proofs.Least.{awaitStep, leastStep, await-turn, asked-turn, asked-fewer, least-awaited-is}
 use Rattle.tables.proofs.times.least_awaited.Statement.{statement}
 use Rattle.tables.proofs.times.least_awaited.Tie as tie
 
 abbrev Inv-loop2 : tie.InvT-loop2
 Inv-loop2 attached present time connections items least rest p item awaited₀ left₀ k₀ awaited left k =
-    (k ≡ lowest left) × (each 32 (has left) (awaitStep (table attached connections) item p) awaited ≡ each 32 (has left₀) (awaitStep (table attached connections) item p) awaited₀)
+    (k ≡ lowest left) × (each connectionPlaces (has left) (awaitStep (table attached connections) item p) awaited ≡ each connectionPlaces (has left₀) (awaitStep (table attached connections) item p) awaited₀)
 
 abbrev μ-loop2 : tie.MeasureT-loop2
 μ-loop2 attached present time connections items least rest p item awaited₀ left₀ k₀ awaited left k = count left
 
 abbrev Inv-loop : tie.InvT-loop
 Inv-loop attached present time connections items least₀ rest₀ p₀ least rest p =
-    (p ≡ lowest rest) × (each 64 (has rest) (leastStep (table attached connections) (table present items)) least ≡ each 64 (has rest₀) (leastStep (table attached connections) (table present items)) least₀)
+    (p ≡ lowest rest) × (each itemPlaces (has rest) (leastStep (table attached connections) (table present items)) least ≡ each itemPlaces (has rest₀) (leastStep (table attached connections) (table present items)) least₀)
 
 abbrev μ-loop : tie.MeasureT-loop
 μ-loop attached present time connections items least₀ rest₀ p₀ least rest p = count rest
 
-lowest-requires : tie.Need-lowest-requires Inv-loop2 μ-loop2 Inv-loop μ-loop
-lowest-requires c κs = search needs
-
 loop-holds : tie.Need-loop-holds Inv-loop2 μ-loop2 Inv-loop μ-loop
 loop-holds c = (c .lowest .ensures, refl)
 
-cast-item : tie.Need-cast-item Inv-loop2 μ-loop2 Inv-loop μ-loop
-cast-item c = search needs
-
-mul-item : tie.Need-mul-item Inv-loop2 μ-loop2 Inv-loop μ-loop
-mul-item c = search needs
-
-array-copy-out-item : tie.Need-array-copy-out-item Inv-loop2 μ-loop2 Inv-loop μ-loop
-array-copy-out-item c = search needs
-
-worth-looking-requires : tie.Need-worth-looking-requires Inv-loop2 μ-loop2 Inv-loop μ-loop
-worth-looking-requires c κs = search needs
-
-lowest-requires-2 : tie.Need-lowest-requires-2 Inv-loop2 μ-loop2 Inv-loop μ-loop
-lowest-requires-2 c κs = search needs
-
 loop2-holds : tie.Need-loop2-holds Inv-loop2 μ-loop2 Inv-loop μ-loop
 loop2-holds c = (c .lowest2 .ensures, refl)
-
-cast-connection : tie.Need-cast-connection Inv-loop2 μ-loop2 Inv-loop μ-loop
-cast-connection c = search needs
-
-mul-connection : tie.Need-mul-connection Inv-loop2 μ-loop2 Inv-loop μ-loop
-mul-connection c = search needs
-
-array-copy-out-connection : tie.Need-array-copy-out-connection Inv-loop2 μ-loop2 Inv-loop μ-loop
-array-copy-out-connection c = search needs
-
-awaits-requires : tie.Need-awaits-requires Inv-loop2 μ-loop2 Inv-loop μ-loop
-awaits-requires c κs = search needs
-
-true-if-requires : tie.Need-true-if-requires Inv-loop2 μ-loop2 Inv-loop μ-loop
-true-if-requires c κs = search needs
-
-without-requires : tie.Need-without-requires Inv-loop2 μ-loop2 Inv-loop μ-loop
-without-requires c κs = search needs
-
-still-asked-requires : tie.Need-still-asked-requires Inv-loop2 μ-loop2 Inv-loop μ-loop
-still-asked-requires c κs = search needs
-
-lowest-requires-3 : tie.Need-lowest-requires-3 Inv-loop2 μ-loop2 Inv-loop μ-loop
-lowest-requires-3 c κs = search needs
 
 loop2-less : tie.Need-loop2-less Inv-loop2 μ-loop2 Inv-loop μ-loop
 loop2-less c =
@@ -89,15 +47,6 @@ loop2-again c =
     let step = c .before .before .before .true-if .ensures in
     (c .lowest3 .ensures, asked-turn (table (args .attached) (args .t1)) (getD (args .t3) p noItem) p (here .left) (here .awaited) (turn .loop2-test .taken) (here .inv .0) (c .before .before .before .before .awaits .ensures) step (c .before .before .without .ensures) (c .before .still-asked .ensures) (here .inv .1))
 
-least-if-requires : tie.Need-least-if-requires Inv-loop2 μ-loop2 Inv-loop μ-loop
-least-if-requires c κs = search needs
-
-without-requires-2 : tie.Need-without-requires-2 Inv-loop2 μ-loop2 Inv-loop μ-loop
-without-requires-2 c κs = search needs
-
-lowest-requires-4 : tie.Need-lowest-requires-4 Inv-loop2 μ-loop2 Inv-loop μ-loop
-lowest-requires-4 c κs = search needs
-
 loop-less : tie.Need-loop-less Inv-loop2 μ-loop2 Inv-loop μ-loop
 loop-less c =
     let turn = c .before .before .before .before .before .before .before .before in
@@ -108,15 +57,15 @@ loop-again c =
     let turn = c .before .before .before .before .before .before .before .before in
     let here = turn .before .loop in
     let inner = c .before .before .before .before .loop2 in
-    let awaited = each-done 32 _ (inner .left) (c .before .before .before .loop2-test .left) (inner .inv .0) (inner .inv .1) in
+    let awaited = each-done connectionPlaces _ (inner .left) (c .before .before .before .loop2-test .left) (inner .inv .0) (inner .inv .1) in
     let args = c .before .before .before .before .before .before .before .before .before .before .before .args in
     let step = await-turn (table (args .attached) (args .t1)) (getD (args .t3) (here .p) noItem) (here .p) (here .least) (c .before .before .before .before .before .before .worth-looking .ensures) awaited (c .before .before .least-if .ensures) in
-    (c .lowest4 .ensures, each-turn 64 _ (here .rest) (here .least) (omega arith) (turn .loop-test .taken) (here .inv .0) step (c .before .without2 .ensures) (here .inv .1))
+    (c .lowest4 .ensures, each-turn itemPlaces _ (here .rest) (here .least) (omega arith) (turn .loop-test .taken) (here .inv .0) step (c .before .without2 .ensures) (here .inv .1))
 
 returns : tie.Need-returns Inv-loop2 μ-loop2 Inv-loop μ-loop
 returns c =
     let here = c .before .loop in
-    each-done 64 _ (here .rest) (c .loop-test .left) (here .inv .0) (here .inv .1) ∙ sym (least-awaited-is _ _ _ (omega arith))
+    each-done itemPlaces _ (here .rest) (c .loop-test .left) (here .inv .0) (here .inv .1) ∙ sym (least-awaited-is _ _ _ (omega arith))
 
 pub least-awaited-spec : {M : Type 1} → statement M
 least-awaited-spec =
@@ -126,27 +75,27 @@ least-awaited-spec =
     μ-loop2
     Inv-loop
     μ-loop
-    lowest-requires
+    (λ c κs. search needs)
     loop-holds
-    cast-item
-    mul-item
-    array-copy-out-item
-    worth-looking-requires
-    lowest-requires-2
+    (λ c. search needs)
+    (λ c. search needs)
+    (λ c. search needs)
+    (λ c κs. search needs)
+    (λ c κs. search needs)
     loop2-holds
-    cast-connection
-    mul-connection
-    array-copy-out-connection
-    awaits-requires
-    true-if-requires
-    without-requires
-    still-asked-requires
-    lowest-requires-3
+    (λ c. search needs)
+    (λ c. search needs)
+    (λ c. search needs)
+    (λ c κs. search needs)
+    (λ c κs. search needs)
+    (λ c κs. search needs)
+    (λ c κs. search needs)
+    (λ c κs. search needs)
     loop2-less
     loop2-again
-    least-if-requires
-    without-requires-2
-    lowest-requires-4
+    (λ c κs. search needs)
+    (λ c κs. search needs)
+    (λ c κs. search needs)
     loop-less
     loop-again
     returns)

@@ -5,41 +5,20 @@ use native.Mathlib.Omega.{arith}
 use Rattle.words.specs.Places.{each}
 use Rattle.words.specs.Words.{has, lowest, count}
 use Rattle.words.proofs.Walk.{each-turn, each-done, each-falls}
-use Rattle.tables.specs.Tables.{table}
+use Rattle.tables.specs.Tables.{table, connectionPlaces}
 use Rattle.tables.proofs.Least.{keepStep, least-keep-is}
 use Rattle.tables.proofs.times.least_keep.Statement.{statement}
 use Rattle.tables.proofs.times.least_keep.Tie as tie
 
 abbrev Inv-loop : tie.InvT-loop
 Inv-loop attached connections least₀ rest₀ k₀ least rest k =
-    (k ≡ lowest rest) × (each 32 (has rest) (keepStep (table attached connections)) least ≡ each 32 (has rest₀) (keepStep (table attached connections)) least₀)
+    (k ≡ lowest rest) × (each connectionPlaces (has rest) (keepStep (table attached connections)) least ≡ each connectionPlaces (has rest₀) (keepStep (table attached connections)) least₀)
 
 abbrev μ-loop : tie.MeasureT-loop
 μ-loop attached connections least₀ rest₀ k₀ least rest k = count rest
 
-lowest-requires : tie.Need-lowest-requires Inv-loop μ-loop
-lowest-requires c κs = search needs
-
 loop-holds : tie.Need-loop-holds Inv-loop μ-loop
 loop-holds c = (c .lowest .ensures, refl)
-
-cast-connection : tie.Need-cast-connection Inv-loop μ-loop
-cast-connection c = search needs
-
-mul-connection : tie.Need-mul-connection Inv-loop μ-loop
-mul-connection c = search needs
-
-array-copy-out-connection : tie.Need-array-copy-out-connection Inv-loop μ-loop
-array-copy-out-connection c = search needs
-
-least-if-requires : tie.Need-least-if-requires Inv-loop μ-loop
-least-if-requires c κs = search needs
-
-without-requires : tie.Need-without-requires Inv-loop μ-loop
-without-requires c κs = search needs
-
-lowest-requires-2 : tie.Need-lowest-requires-2 Inv-loop μ-loop
-lowest-requires-2 c κs = search needs
 
 loop-less : tie.Need-loop-less Inv-loop μ-loop
 loop-less c =
@@ -50,12 +29,12 @@ loop-again : tie.Need-loop-again Inv-loop μ-loop
 loop-again c =
     let turn = c .before .before .before .before .before in
     let here = turn .before .loop in
-    (c .lowest2 .ensures, each-turn 32 _ (here .rest) (here .least) (omega arith) (turn .loop-test .taken) (here .inv .0) (c .before .before .least-if .ensures) (c .before .without .ensures) (here .inv .1))
+    (c .lowest2 .ensures, each-turn connectionPlaces _ (here .rest) (here .least) (omega arith) (turn .loop-test .taken) (here .inv .0) (c .before .before .least-if .ensures) (c .before .without .ensures) (here .inv .1))
 
 returns : tie.Need-returns Inv-loop μ-loop
 returns c =
     let here = c .before .loop in
-    each-done 32 _ (here .rest) (c .loop-test .left) (here .inv .0) (here .inv .1) ∙ sym (least-keep-is _)
+    each-done connectionPlaces _ (here .rest) (c .loop-test .left) (here .inv .0) (here .inv .1) ∙ sym (least-keep-is _)
 
 pub least-keep-spec : {M : Type 1} → statement M
 least-keep-spec =
@@ -63,14 +42,14 @@ least-keep-spec =
     (tie.spec
     Inv-loop
     μ-loop
-    lowest-requires
+    (λ c κs. search needs)
     loop-holds
-    cast-connection
-    mul-connection
-    array-copy-out-connection
-    least-if-requires
-    without-requires
-    lowest-requires-2
+    (λ c. search needs)
+    (λ c. search needs)
+    (λ c. search needs)
+    (λ c κs. search needs)
+    (λ c κs. search needs)
+    (λ c κs. search needs)
     loop-less
     loop-again
     returns)

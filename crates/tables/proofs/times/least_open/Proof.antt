@@ -5,72 +5,31 @@ use borrow.Author.Needs.{needs}
 use Rattle.words.specs.Places.{each}
 use Rattle.words.specs.Words.{has, lowest, count}
 use Rattle.words.proofs.Walk.{each-turn, each-done, each-falls}
-use Rattle.tables.specs.Tables.{table}
-use Rattle.tables.proofs.Least.{openStep, readStep, least-if-by, open-turn, least-open-is}
+use Rattle.rows.proofs.Laws.{least-if-by}
+use Rattle.tables.specs.Tables.{table, connectionPlaces, itemPlaces}
+use Rattle.tables.proofs.Least.{openStep, readStep, open-turn, least-open-is}
 use Rattle.tables.proofs.times.least_open.Statement.{statement}
 use Rattle.tables.proofs.times.least_open.Tie as tie
 
 abbrev Inv-loop2 : tie.InvT-loop2
 Inv-loop2 attached present thread connections items least rest k connection reads open₀ left₀ p₀ «open» left p =
-    (p ≡ lowest left) × (each 64 (has left) (openStep (table present items) connection) «open» ≡ each 64 (has left₀) (openStep (table present items) connection) open₀)
+    (p ≡ lowest left) × (each itemPlaces (has left) (openStep (table present items) connection) «open» ≡ each itemPlaces (has left₀) (openStep (table present items) connection) open₀)
 
 abbrev μ-loop2 : tie.MeasureT-loop2
 μ-loop2 attached present thread connections items least rest k connection reads open₀ left₀ p₀ «open» left p = count left
 
 abbrev Inv-loop : tie.InvT-loop
 Inv-loop attached present thread connections items least₀ rest₀ k₀ least rest k =
-    (k ≡ lowest rest) × (each 32 (has rest) (readStep (table attached connections) (table present items) thread) least ≡ each 32 (has rest₀) (readStep (table attached connections) (table present items) thread) least₀)
+    (k ≡ lowest rest) × (each connectionPlaces (has rest) (readStep (table attached connections) (table present items) thread) least ≡ each connectionPlaces (has rest₀) (readStep (table attached connections) (table present items) thread) least₀)
 
 abbrev μ-loop : tie.MeasureT-loop
 μ-loop attached present thread connections items least₀ rest₀ k₀ least rest k = count rest
 
-lowest-requires : tie.Need-lowest-requires Inv-loop2 μ-loop2 Inv-loop μ-loop
-lowest-requires c κs = search needs
-
 loop-holds : tie.Need-loop-holds Inv-loop2 μ-loop2 Inv-loop μ-loop
 loop-holds c = (c .lowest .ensures, refl)
 
-cast-connection : tie.Need-cast-connection Inv-loop2 μ-loop2 Inv-loop μ-loop
-cast-connection c = search needs
-
-mul-connection : tie.Need-mul-connection Inv-loop2 μ-loop2 Inv-loop μ-loop
-mul-connection c = search needs
-
-array-copy-out-connection : tie.Need-array-copy-out-connection Inv-loop2 μ-loop2 Inv-loop μ-loop
-array-copy-out-connection c = search needs
-
-reads-row-requires : tie.Need-reads-row-requires Inv-loop2 μ-loop2 Inv-loop μ-loop
-reads-row-requires c κs = search needs
-
-open-places-requires : tie.Need-open-places-requires Inv-loop2 μ-loop2 Inv-loop μ-loop
-open-places-requires c κs = search needs
-
-lowest-requires-2 : tie.Need-lowest-requires-2 Inv-loop2 μ-loop2 Inv-loop μ-loop
-lowest-requires-2 c κs = search needs
-
 loop2-holds : tie.Need-loop2-holds Inv-loop2 μ-loop2 Inv-loop μ-loop
 loop2-holds c = (c .lowest2 .ensures, refl)
-
-cast-item : tie.Need-cast-item Inv-loop2 μ-loop2 Inv-loop μ-loop
-cast-item c = search needs
-
-mul-item : tie.Need-mul-item Inv-loop2 μ-loop2 Inv-loop μ-loop
-mul-item c = search needs
-
-array-copy-out-item : tie.Need-array-copy-out-item Inv-loop2 μ-loop2 Inv-loop μ-loop
-array-copy-out-item c = search needs
-
-looks-at-requires : tie.Need-looks-at-requires Inv-loop2 μ-loop2 Inv-loop μ-loop
-looks-at-requires c κs = search needs
-
-least-if-requires : tie.Need-least-if-requires Inv-loop2 μ-loop2 Inv-loop μ-loop
-least-if-requires c κs = search needs
-
-without-requires : tie.Need-without-requires Inv-loop2 μ-loop2 Inv-loop μ-loop
-without-requires c κs = search needs
-
-lowest-requires-3 : tie.Need-lowest-requires-3 Inv-loop2 μ-loop2 Inv-loop μ-loop
-lowest-requires-3 c κs = search needs
 
 loop2-less : tie.Need-loop2-less Inv-loop2 μ-loop2 Inv-loop μ-loop
 loop2-less c =
@@ -82,16 +41,7 @@ loop2-again c =
     let turn = c .before .before .before .before .before in
     let here = turn .before .loop2 in
     let step = least-if-by _ (here .«open») (c .before .before .least-if .ensures) (c .before .before .before .looks-at .ensures) in
-    (c .lowest3 .ensures, each-turn 64 _ (here .left) (here .«open») (omega arith) (turn .loop2-test .taken) (here .inv .0) step (c .before .without .ensures) (here .inv .1))
-
-least-if-requires-2 : tie.Need-least-if-requires-2 Inv-loop2 μ-loop2 Inv-loop μ-loop
-least-if-requires-2 c κs = search needs
-
-without-requires-2 : tie.Need-without-requires-2 Inv-loop2 μ-loop2 Inv-loop μ-loop
-without-requires-2 c κs = search needs
-
-lowest-requires-4 : tie.Need-lowest-requires-4 Inv-loop2 μ-loop2 Inv-loop μ-loop
-lowest-requires-4 c κs = search needs
+    (c .lowest3 .ensures, each-turn itemPlaces _ (here .left) (here .«open») (omega arith) (turn .loop2-test .taken) (here .inv .0) step (c .before .without .ensures) (here .inv .1))
 
 loop-less : tie.Need-loop-less Inv-loop2 μ-loop2 Inv-loop μ-loop
 loop-less c =
@@ -103,14 +53,14 @@ loop-again c =
     let turn = c .before .before .before .before .before .before .before .before .before in
     let here = turn .before .loop in
     let inner = c .before .before .before .before .loop2 in
-    let opened = each-done 64 _ (inner .left) (c .before .before .before .loop2-test .left) (inner .inv .0) (inner .inv .1) in
+    let opened = each-done itemPlaces _ (inner .left) (c .before .before .before .loop2-test .left) (inner .inv .0) (inner .inv .1) in
     let step = open-turn _ _ _ (here .least) (c .before .before .before .before .before .before .before .reads-row .ensures) (c .before .before .before .before .before .before .open-places .ensures) opened (c .before .before .least-if2 .ensures) in
-    (c .lowest4 .ensures, each-turn 32 _ (here .rest) (here .least) (omega arith) (turn .loop-test .taken) (here .inv .0) step (c .before .without2 .ensures) (here .inv .1))
+    (c .lowest4 .ensures, each-turn connectionPlaces _ (here .rest) (here .least) (omega arith) (turn .loop-test .taken) (here .inv .0) step (c .before .without2 .ensures) (here .inv .1))
 
 returns : tie.Need-returns Inv-loop2 μ-loop2 Inv-loop μ-loop
 returns c =
     let here = c .before .loop in
-    each-done 32 _ (here .rest) (c .loop-test .left) (here .inv .0) (here .inv .1) ∙ sym (least-open-is _ _ _)
+    each-done connectionPlaces _ (here .rest) (c .loop-test .left) (here .inv .0) (here .inv .1) ∙ sym (least-open-is _ _ _)
 
 pub least-open-spec : {M : Type 1} → statement M
 least-open-spec =
@@ -120,27 +70,27 @@ least-open-spec =
     μ-loop2
     Inv-loop
     μ-loop
-    lowest-requires
+    (λ c κs. search needs)
     loop-holds
-    cast-connection
-    mul-connection
-    array-copy-out-connection
-    reads-row-requires
-    open-places-requires
-    lowest-requires-2
+    (λ c. search needs)
+    (λ c. search needs)
+    (λ c. search needs)
+    (λ c κs. search needs)
+    (λ c κs. search needs)
+    (λ c κs. search needs)
     loop2-holds
-    cast-item
-    mul-item
-    array-copy-out-item
-    looks-at-requires
-    least-if-requires
-    without-requires
-    lowest-requires-3
+    (λ c. search needs)
+    (λ c. search needs)
+    (λ c. search needs)
+    (λ c κs. search needs)
+    (λ c κs. search needs)
+    (λ c κs. search needs)
+    (λ c κs. search needs)
     loop2-less
     loop2-again
-    least-if-requires-2
-    without-requires-2
-    lowest-requires-4
+    (λ c κs. search needs)
+    (λ c κs. search needs)
+    (λ c κs. search needs)
     loop-less
     loop-again
     returns)

@@ -7,39 +7,18 @@ use native.Mathlib.Omega.{arith}
 use Rattle.words.specs.Places.{each}
 use Rattle.words.specs.Words.{has, lowest, count}
 use Rattle.words.proofs.Walk.{each-turn, each-done, each-falls}
-use Rattle.tables.specs.Tables.{table}
+use Rattle.tables.specs.Tables.{table, threadPlaces}
 use Rattle.tables.proofs.Least.{timeStep, least-time-is}
 
 abbrev Inv-loop : tie.InvT-loop
 Inv-loop living threads least₀ rest₀ t₀ least rest t =
-    (t ≡ lowest rest) × (each 16 (has rest) (timeStep (table living threads)) least ≡ each 16 (has rest₀) (timeStep (table living threads)) least₀)
+    (t ≡ lowest rest) × (each threadPlaces (has rest) (timeStep (table living threads)) least ≡ each threadPlaces (has rest₀) (timeStep (table living threads)) least₀)
 
 abbrev μ-loop : tie.MeasureT-loop
 μ-loop living threads least₀ rest₀ t₀ least rest t = count rest
 
-lowest-requires : tie.Need-lowest-requires Inv-loop μ-loop
-lowest-requires c κs = search needs
-
 loop-holds : tie.Need-loop-holds Inv-loop μ-loop
 loop-holds c = (c .lowest .ensures, refl)
-
-cast-thread : tie.Need-cast-thread Inv-loop μ-loop
-cast-thread c = search needs
-
-mul-thread : tie.Need-mul-thread Inv-loop μ-loop
-mul-thread c = search needs
-
-array-copy-out-thread : tie.Need-array-copy-out-thread Inv-loop μ-loop
-array-copy-out-thread c = search needs
-
-smaller-requires : tie.Need-smaller-requires Inv-loop μ-loop
-smaller-requires c κs = search needs
-
-without-requires : tie.Need-without-requires Inv-loop μ-loop
-without-requires c κs = search needs
-
-lowest-requires-2 : tie.Need-lowest-requires-2 Inv-loop μ-loop
-lowest-requires-2 c κs = search needs
 
 loop-less : tie.Need-loop-less Inv-loop μ-loop
 loop-less c =
@@ -50,12 +29,12 @@ loop-again : tie.Need-loop-again Inv-loop μ-loop
 loop-again c =
     let turn = c .before .before .before .before in
     let here = turn .before .loop in
-    (c .lowest2 .ensures, each-turn 16 _ (here .rest) (here .least) (omega arith) (turn .loop-test .taken) (here .inv .0) (c .before .before .smaller .ensures) (c .before .without .ensures) (here .inv .1))
+    (c .lowest2 .ensures, each-turn threadPlaces _ (here .rest) (here .least) (omega arith) (turn .loop-test .taken) (here .inv .0) (c .before .before .smaller .ensures) (c .before .without .ensures) (here .inv .1))
 
 returns : tie.Need-returns Inv-loop μ-loop
 returns c =
     let here = c .before .loop in
-    each-done 16 _ (here .rest) (c .loop-test .left) (here .inv .0) (here .inv .1) ∙ sym (least-time-is _)
+    each-done threadPlaces _ (here .rest) (c .loop-test .left) (here .inv .0) (here .inv .1) ∙ sym (least-time-is _)
 
 pub least-time-spec : {M : Type 1} → statement M
 least-time-spec =
@@ -63,14 +42,14 @@ least-time-spec =
     (tie.spec
     Inv-loop
     μ-loop
-    lowest-requires
+    (λ c κs. search needs)
     loop-holds
-    cast-thread
-    mul-thread
-    array-copy-out-thread
-    smaller-requires
-    without-requires
-    lowest-requires-2
+    (λ c. search needs)
+    (λ c. search needs)
+    (λ c. search needs)
+    (λ c κs. search needs)
+    (λ c κs. search needs)
+    (λ c κs. search needs)
     loop-less
     loop-again
     returns)

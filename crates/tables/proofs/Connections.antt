@@ -1,20 +1,34 @@
--- A connection in order stays so by what a call does to its row, and by other items where its facts stand. Assumes nothing.
-use Rattle.obeys.proofs.Basis.{_≡_, false, true, _⊎_, _≤_, ℕ, ℕ-discrete, arith, has, has-none, cleared, consumedByName, got, raised, inward, never, outward, Row, Item, true-not-false, Table, connected, ConnectionInOrder}
-use Rattle.obeys.proofs.Basis.{Stands}
-use Rattle.obeys.proofs.Words.{not-then, with-was, without-was, without-apart, except-was, except-kept}
+-- A connection in order stays so by what a call does to its row, and by other items where its facts stand: a fact is new only at the place that the
+-- call names. Assumes nothing.
+use mathlib.Core.Bool.{false, true}
+use mathlib.Core.Logic.{_⊎_}
+use mathlib.Core.Path.{_≡_}
+use Prim.Native.Nat.{_≤_, ℕ}
+use native.Mathlib.Decide.{ℕ-discrete}
+use native.Mathlib.Omega.{arith}
+use Rattle.words.specs.Words.{has}
+use Rattle.words.proofs.Changes.{except-kept, except-was, with-was, without-apart, without-was}
+use Rattle.words.proofs.Digits.{has-none}
+use Rattle.words.proofs.YesOrNo.{not-then, true-not-false}
+use Rattle.rows.specs.Facts.{cleared, consumedByName, got, raised}
+use Rattle.rows.specs.Numbers.{input, never, output}
+use Rattle.rows.specs.declared.Connection.{Connection}
+use Rattle.rows.specs.declared.Item.{Item}
+use Rattle.tables.specs.Order.{ConnectionInOrder, Stands}
+use Rattle.tables.specs.Tables.{Table}
 
 -- a new connection, which has no facts
-pub connected-in-order : (items : Table Item) (direction thread channel mark : ℕ) → (direction ≡ inward) ⊎ (direction ≡ outward) → mark ≤ never
-    → ConnectionInOrder items (connected direction thread channel mark)
-connected-in-order items direction thread channel mark goes top = record {
+pub new-in-order : (items : Table Item) (row : Connection) → (row .direction ≡ input) ⊎ (row .direction ≡ output) → row .mark ≤ never
+    → row .opened ≡ 0 → row .consumed ≡ 0 → ConnectionInOrder items row
+new-in-order items row goes top unopened unconsumed = record {
   direction = goes;
   mark = top;
-  opened = λ place fact. absurd (true-not-false fact (has-none place));
-  consumed = λ place fact. absurd (true-not-false fact (has-none place));
-  apart = λ place fact. has-none place;
+  opened = λ place fact. absurd (true-not-false fact (rw unopened (has-none place)));
+  consumed = λ place fact. absurd (true-not-false fact (rw unconsumed (has-none place)));
+  apart = λ place fact. rw unconsumed (has-none place);
 }
 
-module _ {items : Table Item} {row : Row} (c : ConnectionInOrder items row) where
+module _ {items : Table Item} {row : Connection} (c : ConnectionInOrder items row) where
   -- a get of an item that is there and not consumed
   pub got-in-order : (place : ℕ) → Stands items row place → has (row .consumed) place ≡ false → ConnectionInOrder items (got row place)
   unfolding got

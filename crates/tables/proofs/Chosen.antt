@@ -1,9 +1,25 @@
--- What the searches find: the best item of those that pass a test, the item that a get takes, and the place of an item. Assumes nothing.
-use Rattle.obeys.proofs.Basis.{_∙_, _≡_, ap, refl, subst, Bool, _&&_, cond, false, true, List, _<_, _≤_, suc, ℕ, le-refl, not-suc-le-zero, arith, getD, le-ltb, lt-ltb, ltb-true, lowest-holds, lowest-reach, Which, Earliest}
-use Rattle.obeys.proofs.Basis.{Latest, Named, preferred, takenBefore, noItem, Row, Found, At, Nothing, Item, and-both, and-left, and-right, true-not-false, chosen, isWanted, sought, isItem, isUnseenAt, placeOf, Table}
-use Rattle.obeys.proofs.Basis.{itemAt}
-use Rattle.obeys.proofs.Words.{not-then}
-use Rattle.obeys.proofs.Folds.{each-keeps, and-this}
+-- What the searches find: the best item of those that pass a test, and so the item that a get takes. After each place the one found is the best so
+-- far, as "better" is an order. Assumes nothing.
+use mathlib.Core.Bool.{Bool, _&&_, cond, false, true}
+use mathlib.Core.List.{List}
+use mathlib.Core.Path.{_∙_, _≡_, ap, refl, subst}
+use Prim.Native.Nat.{_<_, suc, ℕ}
+use native.Mathlib.Nat.{le-refl, not-suc-le-zero}
+use native.Mathlib.Omega.{arith}
+use lib.ListN.{getD}
+use Rattle.words.proofs.Walk.{and-this, each-keeps}
+use Rattle.words.proofs.YesOrNo.{and-both, and-left, and-right, not-then, true-not-false}
+use Rattle.calls.specs.declared.Which.{Which}
+use Rattle.rows.specs.Choices.{preferred, takenBefore}
+use Rattle.rows.specs.Numbers.{noItem}
+use Rattle.rows.specs.declared.Connection.{Connection}
+use Rattle.rows.specs.declared.Found.{Found}
+use Rattle.rows.specs.declared.Found.the-variants.{At, Nothing}
+use Rattle.rows.specs.declared.Item.{Item}
+use Rattle.rows.proofs.Orders.{taken-irreflexive, taken-transitive}
+use Rattle.tables.specs.Search.{chosen, isWanted, sought}
+use Rattle.tables.specs.Seen.{isUnseenAt}
+use Rattle.tables.specs.Tables.{Table, itemAt, itemPlaces}
 
 -- ---- the best item of those that pass a test, where "better" is an order
 
@@ -46,30 +62,20 @@ module _ (rows : List Item) (better : Item → Item → Bool) (test : ℕ → Bo
       (omega arith, its, is, and-this (NoBetter item) (λ holds. absurd (true-not-false holds fails)) best)
   best-kept n Nothing fails none = and-this (λ other. test other ≡ false) fails none
 
-  pub chosen-is : (found : Found) → chosen rows better test ≡ found → Best 64 found
+  pub chosen-is : (found : Found) → chosen rows better test ≡ found → Best itemPlaces found
   unfolding chosen
-  chosen-is found e = subst (Best 64) e (each-keeps Best test _ Nothing (λ other below. absurd (not-suc-le-zero below)) best-taken best-kept 64)
+  chosen-is found e = subst (Best itemPlaces) e (each-keeps Best test _ Nothing (λ other below. absurd (not-suc-le-zero below)) best-taken best-kept itemPlaces)
 
 -- ---- what a get finds
 
-taken-irreflexive : (which : Which) (item : Item) → takenBefore which item item ≡ false
-taken-irreflexive Earliest item = le-ltb _ _ (le-refl (item .timestamp))
-taken-irreflexive Latest item = le-ltb _ _ (le-refl (item .timestamp))
-taken-irreflexive (Named timestamp) item = refl
-
-taken-transitive : (which : Which) (a b c : Item) → takenBefore which a b ≡ true → takenBefore which b c ≡ true → takenBefore which a c ≡ true
-taken-transitive Earliest a b c x y = lt-ltb (a .timestamp) (c .timestamp) (omega (arith, ltb-true (a .timestamp) (b .timestamp) x, ltb-true (b .timestamp) (c .timestamp) y))
-taken-transitive Latest a b c x y = lt-ltb (c .timestamp) (a .timestamp) (omega (arith, ltb-true (b .timestamp) (a .timestamp) x, ltb-true (c .timestamp) (b .timestamp) y))
-taken-transitive (Named timestamp) a b c x y = x
-
-module _ (items : Table Item) (connection : Row) (which : Which) where
+module _ (items : Table Item) (connection : Connection) (which : Which) where
   -- an UNSEEN item that fits, and none is taken before it
   pub record Sought (place : ℕ) (item : Item) : Type 0 where
-    pub inside : place < 64
+    pub inside : place < itemPlaces
     pub is : item ≡ itemAt items place
     pub unseen : isUnseenAt items connection place ≡ true
     pub wanted : isWanted which item ≡ true
-    pub best : (other : ℕ) → other < 64 → isUnseenAt items connection other ≡ true → isWanted which (itemAt items other) ≡ true
+    pub best : (other : ℕ) → other < itemPlaces → isUnseenAt items connection other ≡ true → isWanted which (itemAt items other) ≡ true
         → takenBefore which (itemAt items other) item ≡ false
 
   abbrev fits : ℕ → Bool
@@ -88,20 +94,9 @@ module _ (items : Table Item) (connection : Row) (which : Which) where
       }
 
   -- where an item that fits is UNSEEN, something is found
-  pub sought-some : (place : ℕ) → place < 64 → isUnseenAt items connection place ≡ true → isWanted which (itemAt items place) ≡ true
+  pub sought-some : (place : ℕ) → place < itemPlaces → isUnseenAt items connection place ≡ true → isWanted which (itemAt items place) ≡ true
       → sought items connection which ≡ Nothing → ⊥
   unfolding sought
   sought-some place below unseen wanted none =
       true-not-false (and-both unseen wanted)
       (chosen-is (items .rows) (takenBefore which) fits (taken-irreflexive which) (taken-transitive which) Nothing none place below)
-
--- ---- the place of an item
-
-module _ (items : Table Item) (channel timestamp : ℕ) where
-  pub place-found : placeOf items channel timestamp < 64 → isItem items channel timestamp (placeOf items channel timestamp) ≡ true
-  unfolding placeOf
-  place-found = lowest-holds (isItem items channel timestamp) 64
-
-  pub place-reach : {place : ℕ} → place < 64 → isItem items channel timestamp place ≡ true → placeOf items channel timestamp ≤ place
-  unfolding placeOf
-  place-reach = lowest-reach (isItem items channel timestamp)
