@@ -1,4 +1,5 @@
--- The laws of places and of words. Assumes nothing.
+-- The laws of places and of words: a word is known by its places, so each law is one of tests on places, by induction on how many there are. Assumes
+-- nothing.
 pub use Rattle.words.proofs.Digits.{has-none}
 use mathlib.Core.Bool.{Bool, _&&_, _||_, and-false, and-true, cond, false, not, or-false, or-true, true, true≢false}
 use mathlib.Core.Logic.{_≢_, _⊎_, ⊎-elim}

@@ -1,4 +1,4 @@
--- `rows::Answer::with_code` meets its contract. Assumes nothing.
+-- The two tests of the code, for 0 and for 12, are those of the definition, so each of the three ways out is one of its cases. Assumes nothing.
 use borrow.Author.Tests.{eq-eqb, ne-eqb}
 use Rattle.rows.specs.Answers.{answered}
 use Rattle.rows.proofs.Answer.with_code.Statement.{statement}
