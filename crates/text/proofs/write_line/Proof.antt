@@ -1,4 +1,4 @@
--- `text::write_line` meets its contract. Assumes nothing.
+-- Code, value, time, tickets and newline are texts written one after the other, and so one text. Assumes nothing.
 use native.Mathlib.Omega.{arith}
 use lib.ListN.{length-set}
 use Rattle.text.specs.Text.{answerText}
