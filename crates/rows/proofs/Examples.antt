@@ -1,4 +1,4 @@
--- What a get takes, of two items. Assumes nothing.
+-- What a get takes, of two items, by computing the definitions. Assumes nothing.
 use mathlib.Core.Path.{_≡_, refl}
 use Rattle.calls.specs.declared.Which.{Which}
 use Rattle.calls.specs.declared.Which.the-variants.{Earliest, Latest}

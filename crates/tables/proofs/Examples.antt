@@ -1,4 +1,4 @@
--- Visible time and the strong bound, on one item. Assumes nothing.
+-- Visible time and the strong bound, on one item, by computing the definitions. Assumes nothing.
 use mathlib.Core.Path.{_≡_, refl}
 use mathlib.Core.List.{[], _∷_}
 use Rattle.words.specs.Places.{foldTo, each}

@@ -1,4 +1,5 @@
--- The parts of visible time and of the two bounds, as loops over the places of a word. Assumes nothing.
+-- The parts of visible time and of the two bounds, as loops over the places of a word: a test of the definition is that the place is in the word, and
+-- what the loop tests besides. Assumes nothing.
 use mathlib.Core.Bool.{Bool, _&&_, and-assoc, and-comm, and-false, cond, false, not, true}
 use mathlib.Core.Path.{_∙_, _≡_, ap, refl, sym}
 use Prim.Native.Nat.{_<_, _≤_, min, suc, zero, ℕ}

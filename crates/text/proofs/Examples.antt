@@ -1,4 +1,4 @@
--- Numbers and answers whose text is computed. Assumes nothing.
+-- Numbers and answers whose text is computed from the definitions. Assumes nothing.
 use mathlib.Core.Path.{_≡_, refl}
 use mathlib.Core.List.{[], _∷_}
 use mathlib.Core.Bool.{true, false}

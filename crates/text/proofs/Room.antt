@@ -1,4 +1,4 @@
--- When a line is written. Assumes nothing.
+-- When a line is written: the three tests of the definition, one by one. Assumes nothing.
 use Prim.Native.Nat.{ℕ, _+_, _≤_, _<_}
 use mathlib.Core.Path.{_≡_, refl}
 use mathlib.Core.Bool.{Bool, true, false, _&&_, false≢true}

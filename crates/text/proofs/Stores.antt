@@ -1,4 +1,4 @@
--- Runs of stores, and texts written one after the other. Assumes nothing.
+-- Runs of stores, and texts written one after the other: two runs, the one behind the other, are one run. Assumes nothing.
 use Prim.Native.Nat.{ℕ, suc, _+_, _-_, _/_, _%_, _≤_, _<_}
 use mathlib.Core.Path.{_≡_, refl, ap, sym, _∙_}
 use mathlib.Core.List.{List, [], _∷_, _++_, append-nil, append-assoc}

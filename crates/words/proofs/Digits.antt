@@ -1,4 +1,4 @@
--- The binary digits of a number, read as places from the lowest up. Assumes nothing.
+-- The binary digits of a number, read as places from the lowest up: place 0 is the remainder by two, and every other a place of the half. Assumes nothing.
 use mathlib.Core.Path.{_≡_, refl, sym, ap, ap₂, _∙_}
 use mathlib.Core.Bool.{Bool, true, false, cond}
 use Prim.Native.Nat.{ℕ, zero, suc, _+_, _/_, _%_, _^_, _≤_, _<_, zero-le, suc-le-suc}

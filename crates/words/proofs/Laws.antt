@@ -1,4 +1,5 @@
--- The laws of places and of words. Assumes nothing.
+-- The laws of places and of words: a word is known by its places, so each law is one of tests on places, by induction on how many there are. Assumes
+-- nothing.
 pub use Rattle.words.proofs.Digits.{has-none}
 use mathlib.Core.Bool.{Bool, _&&_, _||_, and-false, and-true, cond, false, not, or-false, or-true, true, true≢false}
 use mathlib.Core.Logic.{_≢_, _⊎_, ⊎-elim}
@@ -74,10 +75,6 @@ has-except a b = has-wordOf (λ i. has a i && not (has b i)) wordPlaces
 pub with-lt : (w p : ℕ) → with w p < 2 ^ wordPlaces
 unfolding with
 with-lt w p = wordOf-lt (λ i. has w i || eqb i p) wordPlaces
-
-pub except-lt : (a b : ℕ) → except a b < 2 ^ wordPlaces
-unfolding except
-except-lt a b = wordOf-lt (λ i. has a i && not (has b i)) wordPlaces
 
 -- ---- the same, place by place
 

@@ -1,4 +1,4 @@
--- What the machine's operations on a word compute to, in terms of places. Assumes nothing.
+-- What the machine's operations on a word compute to, in terms of places: each is known digit by digit, and a word by its places. Assumes nothing.
 use mathlib.Core.Bool.{Bool, _&&_, _||_, cond, false, not, true}
 use mathlib.Core.Path.{_∙_, _≡_, ap, ap₂, refl, sym}
 use Prim.Native.Nat.{_%_, _*_, _-_, _/_, _<_, _^_, max, min, suc, zero, ℕ}

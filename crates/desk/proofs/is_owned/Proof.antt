@@ -1,4 +1,4 @@
--- `desk::is_owned` meets its contract. Assumes nothing.
+-- Each way out is one side of `&&`: the place is not in use, or it is and the thread decides. Assumes nothing.
 use mathlib.Core.Path.{sym, _∙_}
 use borrow.Author.Needs.{needs}
 use borrow.Author.Tests.{not-true, not-false}

@@ -1,4 +1,5 @@
--- `leaving::hand_back` meets its contract. Assumes nothing.
+-- The inner loop finds the first item of the places that are left. After each turn of the outer one, the ticket is written and its place is out:
+-- writing the tickets that are left, from there on, still gives the whole. Assumes nothing.
 use mathlib.Core.Path.{_≡_, refl, _∙_}
 use Prim.Native.Nat.{_≤_, _-_}
 use native.Mathlib.Omega.{arith}

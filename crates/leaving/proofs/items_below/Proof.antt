@@ -1,4 +1,5 @@
--- `leaving::items_below` meets its contract. Assumes nothing.
+-- The loop gathers the present places whose items lie below the bound. After each turn, what it has gathered and what the rest of it would still
+-- gather is the whole word. Assumes nothing.
 use mathlib.Core.Path.{_≡_, refl}
 use mathlib.Core.Bool.{Bool}
 use mathlib.Core.List.{List}

@@ -1,4 +1,5 @@
--- `leaving::owned_by` meets its contract. Assumes nothing.
+-- The loop gathers the used places whose connections are the thread's. After each turn, what it has gathered and what the rest of it would still
+-- gather is the whole word. Assumes nothing.
 use mathlib.Core.Path.{_≡_, ap}
 use mathlib.Core.Bool.{Bool, _&&_}
 use mathlib.Core.List.{List}

@@ -1,4 +1,4 @@
--- `leaving::with_if` meets its contract. Assumes nothing.
+-- The place joins the word where the test holds, and the word stays as it is elsewhere. Assumes nothing.
 use borrow.Author.Needs.{needs}
 use Rattle.leaving.proofs.with_if.Statement.{statement}
 use Rattle.leaving.proofs.with_if.Tie as tie

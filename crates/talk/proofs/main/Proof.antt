@@ -1,4 +1,5 @@
--- `talk::main` meets its contract. Assumes nothing.
+-- The two buffers keep their length, so every part that is read, told or written lies in one; the program ends since the reads are counted down.
+-- Assumes nothing.
 use mathlib.Core.Path.{_≡_, sym}
 use Prim.Native.Nat.{_≤_}
 use lib.ListN.{length}

@@ -1,4 +1,5 @@
--- `talk::tell` meets its contract. Assumes nothing.
+-- What is left of the part gets shorter, since a turn that uses nothing of it ends the loop; by what `feed` promises, no more is used than is left
+-- and no more is written than the buffer holds. Assumes nothing.
 use mathlib.Core.Path.{_≡_, _∙_, sym}
 use mathlib.Core.List.{List}
 use Prim.Native.Nat.{ℕ, _+_, _-_, _≤_}

@@ -1,4 +1,5 @@
--- `text::digit_count` meets its contract. Assumes nothing.
+-- The bound is ten to the count, and the number has at least `count` digits: where the bound passes the number it has no more. A number of 20 digits
+-- is told apart first, as the next power would not fit. Assumes nothing.
 use Prim.Native.Nat.{_-_, _^_, _≤_, _<_}
 use mathlib.Core.Path.{_≡_, refl}
 use native.Mathlib.Omega.{arith}

@@ -1,4 +1,4 @@
--- `text::has_room` meets its contract. Assumes nothing.
+-- Each test, made so that no sum can wrap, is one part of the definition; the first that fails answers no. Assumes nothing.
 use native.Mathlib.Omega.{arith}
 use mathlib.Core.Path.{sym}
 use Rattle.text.proofs.Room.{room-places, room-tickets, room-held}

@@ -1,4 +1,5 @@
--- `text::write_answer` meets its contract. Assumes nothing.
+-- Where there is room for the longest line, the line is written and no longer than that, so the rest of the buffer is as it was; elsewhere nothing
+-- is. Assumes nothing.
 use mathlib.Core.Path.{refl, sym, _∙_}
 use native.Mathlib.Omega.{arith}
 use borrow.Author.Tests.{not-true, not-false}

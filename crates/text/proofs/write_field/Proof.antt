@@ -1,4 +1,4 @@
--- `text::write_field` meets its contract. Assumes nothing.
+-- A space is one text and the number another, and one text after another is one text. Assumes nothing.
 use mathlib.Core.Path.{_∙_}
 use native.Mathlib.Omega.{arith}
 use lib.ListN.{length-set}

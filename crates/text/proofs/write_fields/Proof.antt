@@ -1,4 +1,5 @@
--- `text::write_fields` meets its contract. Assumes nothing.
+-- After i turns the first i tickets stand, a space before each, with room for the others behind them; one text after another is one text. Assumes
+-- nothing.
 use Prim.Native.Nat.{_+_, _*_, _-_, _≤_}
 use mathlib.Core.Path.{_≡_, refl, _∙_}
 use native.Mathlib.Omega.{arith}

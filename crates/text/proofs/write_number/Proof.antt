@@ -1,4 +1,5 @@
--- `text::write_number` meets its contract. Assumes nothing.
+-- The digits are stored from the last to the first. After each turn, storing those that are left before those that stand already would make the
+-- number whole. Assumes nothing.
 use Prim.Native.Nat.{_+_, _-_, _≤_}
 use mathlib.Core.Path.{_≡_, refl, _∙_}
 use native.Mathlib.Omega.{arith}
@@ -18,6 +19,9 @@ Inv-loop out₀ at number end rest₀ place₀ out rest place =
 
 abbrev μ-loop : tie.MeasureT-loop
 μ-loop out₀ at number end rest₀ place₀ out rest place = place
+
+digit-count-requires : tie.Need-digit-count-requires Inv-loop μ-loop
+digit-count-requires c κs = search needs
 
 add-end : tie.Need-add-end Inv-loop μ-loop
 add-end c = omega (arith, decimal-length (c .before .before .args .number))
@@ -73,7 +77,7 @@ write-number-spec =
     (tie.spec
     Inv-loop
     μ-loop
-    (λ c κs. search needs)
+    digit-count-requires
     add-end
     loop-holds
     sub-place

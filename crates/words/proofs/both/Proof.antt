@@ -1,4 +1,4 @@
--- `words::both` meets its contract. Assumes nothing.
+-- The machine's `&` has a place where both words have it, and a word is known by its places. Assumes nothing.
 use Rattle.words.proofs.Machine.{both-is}
 use Rattle.words.proofs.both.Statement.{statement}
 use Rattle.words.proofs.both.Tie as tie

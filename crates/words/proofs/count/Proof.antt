@@ -1,4 +1,4 @@
--- `words::count` meets its contract. Assumes nothing.
+-- The ones of a number, counted from the lowest digit up, are the places of the word, counted from the top down. Assumes nothing.
 use Rattle.words.proofs.Machine.{count-is}
 use Rattle.words.proofs.count.Statement.{statement}
 use Rattle.words.proofs.count.Tie as tie

@@ -1,4 +1,4 @@
--- `words::except` meets its contract. Assumes nothing.
+-- The machine's `& !` has a place where the one word has it and the other has not, and a word is known by its places. Assumes nothing.
 use Rattle.words.proofs.Machine.{except-is}
 use Rattle.words.proofs.except.Statement.{statement}
 use Rattle.words.proofs.except.Tie as tie

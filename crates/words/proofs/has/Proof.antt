@@ -1,4 +1,4 @@
--- `words::has` meets its contract. Assumes nothing.
+-- The word shifted down by the place has the place's digit as its last; a place past the last is in no number of 64 digits. Assumes nothing.
 use mathlib.Core.Path.{sym}
 use native.Mathlib.Omega.{arith}
 use borrow.Author.Needs.{needs}

@@ -1,4 +1,4 @@
--- `words::lowest` meets its contract. Assumes nothing.
+-- The trailing zeros of a number are the places below the lowest one that is in it. Assumes nothing.
 use Rattle.words.proofs.Machine.{lowest-is}
 use Rattle.words.proofs.lowest.Statement.{statement}
 use Rattle.words.proofs.lowest.Tie as tie

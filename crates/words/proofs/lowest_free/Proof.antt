@@ -1,4 +1,5 @@
--- `words::lowest_free` meets its contract. Assumes nothing.
+-- The inverted word has exactly the places that the word has not, so its trailing zeros are the used places below the lowest free one. Assumes
+-- nothing.
 use Rattle.words.proofs.Machine.{free-is}
 use Rattle.words.proofs.lowest_free.Statement.{statement}
 use Rattle.words.proofs.lowest_free.Tie as tie

@@ -1,4 +1,4 @@
--- `words::with` meets its contract. Assumes nothing.
+-- The machine's `|` with the place's own power of two adds that place alone; a place past the last changes no word. Assumes nothing.
 use native.Mathlib.Omega.{arith}
 use borrow.Author.Needs.{needs}
 use Rattle.words.proofs.Laws.{with-past}

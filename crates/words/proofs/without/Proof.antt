@@ -1,4 +1,4 @@
--- `words::without` meets its contract. Assumes nothing.
+-- The machine's `&` with all but the place's own power of two takes that place alone; a place past the last changes no word. Assumes nothing.
 use native.Mathlib.Omega.{arith}
 use borrow.Author.Needs.{needs}
 use Rattle.words.proofs.Laws.{without-past}

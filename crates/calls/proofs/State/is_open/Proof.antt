@@ -1,4 +1,4 @@
--- `calls::State::is_open` meets its contract. Assumes nothing.
+-- OPEN is taken by the first arm and the other three states by the second, and the definition says the same of each. Assumes nothing.
 use mathlib.Core.Path.{_≡_, refl}
 use mathlib.Core.Bool.{false}
 use mathlib.Core.List.{[], _∷_}

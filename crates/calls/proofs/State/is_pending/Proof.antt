@@ -1,4 +1,4 @@
--- `calls::State::is_pending` meets its contract. Assumes nothing.
+-- UNSEEN and OPEN are taken by the first arm and the other two states by the second, and the definition says the same of each. Assumes nothing.
 use mathlib.Core.Path.{_≡_, refl}
 use mathlib.Core.Bool.{true, false}
 use mathlib.Core.List.{[], _∷_}

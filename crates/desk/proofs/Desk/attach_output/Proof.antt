@@ -1,4 +1,4 @@
--- `desk::Desk::attach_output` meets its contract. Assumes nothing.
+-- The call that both attaches share, with 0 for the mark: its contract with that mark is the row of attach output. Assumes nothing.
 use borrow.Author.Needs.{needs}
 use Rattle.desk.specs.Calls.{step, checks, effect, told}
 use Rattle.desk.proofs.Desk.attach_output.Statement.{statement}

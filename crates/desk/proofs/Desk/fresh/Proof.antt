@@ -1,4 +1,4 @@
--- `desk::Desk::fresh` meets its contract. Assumes nothing.
+-- The desk that is built is the fresh one, field by field. Assumes nothing.
 use Rattle.desk.specs.Desk.{fresh}
 use mathlib.Core.Path.{refl}
 use Rattle.desk.proofs.Desk.fresh.Statement.{statement}

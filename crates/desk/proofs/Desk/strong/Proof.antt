@@ -1,4 +1,4 @@
--- `desk::Desk::strong` meets its contract. Assumes nothing.
+-- The search starts from the smallest virtual time, so what it finds is the smaller of that and the smallest timestamp awaited. Assumes nothing.
 use Rattle.desk.specs.Times.{strongBound}
 use borrow.Author.Needs.{needs}
 use Rattle.desk.proofs.Desk.strong.Statement.{statement}

@@ -1,10 +1,9 @@
--- `desk::Desk::strong_sweep` meets its contract. Assumes nothing.
+-- The sweep that takes a bound, at the strong bound. Assumes nothing.
 use borrow.Author.Needs.{needs}
 use Rattle.desk.specs.Calls.{step, checks, effect, sliceAfter, told}
 use Rattle.desk.proofs.Desk.strong_sweep.Statement.{statement}
 use Rattle.desk.proofs.Desk.strong_sweep.Tie as tie
 
--- the sweep that takes a bound, at the strong bound
 returns : tie.Need-returns
 unfolding step checks effect sliceAfter told
 returns c = rw (c .before .before .before .before .strong .ensures) at (c .before .before .sweep .ensures)

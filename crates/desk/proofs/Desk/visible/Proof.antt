@@ -1,4 +1,4 @@
--- `desk::Desk::visible` meets its contract. Assumes nothing.
+-- The smaller of the thread's virtual time and the smallest timestamp OPEN on its inputs, each by its search. Assumes nothing.
 use Rattle.desk.specs.Times.{visibleTime}
 use mathlib.Core.Path.{_∙_}
 use borrow.Author.Needs.{needs}

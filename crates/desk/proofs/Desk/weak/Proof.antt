@@ -1,4 +1,4 @@
--- `desk::Desk::weak` meets its contract. Assumes nothing.
+-- The smaller of the smallest virtual time and the smallest keep time, each by its search. Assumes nothing.
 use Rattle.desk.specs.Times.{weakBound}
 use mathlib.Core.Path.{_∙_}
 use borrow.Author.Needs.{needs}

@@ -1,10 +1,9 @@
--- `desk::Desk::weak_sweep` meets its contract. Assumes nothing.
+-- The sweep that takes a bound, at the weak bound. Assumes nothing.
 use borrow.Author.Needs.{needs}
 use Rattle.desk.specs.Calls.{step, checks, effect, sliceAfter, told}
 use Rattle.desk.proofs.Desk.weak_sweep.Statement.{statement}
 use Rattle.desk.proofs.Desk.weak_sweep.Tie as tie
 
--- the sweep that takes a bound, at the weak bound
 returns : tie.Need-returns
 unfolding step checks effect sliceAfter told
 returns c = rw (c .before .before .before .before .weak .ensures) at (c .before .before .sweep .ensures)

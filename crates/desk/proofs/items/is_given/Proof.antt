@@ -1,4 +1,4 @@
--- `desk::items::is_given` meets its contract. Assumes nothing.
+-- By the three kinds of get: only a named timestamp is compared with never. Assumes nothing.
 use mathlib.Core.Path.{_≡_, sym}
 use Prim.Native.Nat.{ℕ}
 use native.Mathlib.Decide.{decLe}

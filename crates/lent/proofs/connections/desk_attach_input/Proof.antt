@@ -1,4 +1,4 @@
--- `lent::connections::desk_attach_input` meets its contract, by the law of a lent call (`Lent.antt`), at `desk::Desk::attach_input`.
+-- By the law of a lent call (`Lent.antt`), at `desk::Desk::attach_input`. Assumes nothing.
 use mathlib.Core.List.{[], _∷_}
 use package.mir.Syntax.{w32}
 use Rattle.calls.specs.Calls.{attach-input}

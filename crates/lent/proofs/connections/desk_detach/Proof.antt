@@ -1,4 +1,4 @@
--- `lent::connections::desk_detach` meets its contract, by the law of a lent call (`Lent.antt`), at `desk::Desk::detach`.
+-- By the law of a lent call (`Lent.antt`), at `desk::Desk::detach`. Assumes nothing.
 use mathlib.Core.List.{[], _∷_}
 use package.mir.Syntax.{w32}
 use Rattle.calls.specs.Calls.{detach}

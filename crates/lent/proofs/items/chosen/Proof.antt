@@ -1,4 +1,4 @@
--- `lent::items::chosen` meets its contract. Assumes nothing.
+-- The by-value get, asked for the item that the number stands for. Assumes nothing.
 use borrow.Author.Needs.{needs}
 use Rattle.lent.proofs.items.chosen.Statement.{statement}
 use Rattle.lent.proofs.items.chosen.Tie as tie

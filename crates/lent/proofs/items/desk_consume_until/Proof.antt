@@ -1,4 +1,4 @@
--- `lent::items::desk_consume_until` meets its contract, by the law of a lent call (`Lent.antt`), at `desk::Desk::consume_until`.
+-- By the law of a lent call (`Lent.antt`), at `desk::Desk::consume_until`. Assumes nothing.
 use mathlib.Core.List.{[], _∷_}
 use package.mir.Syntax.{w32}
 use Rattle.calls.specs.Calls.{consume-until}

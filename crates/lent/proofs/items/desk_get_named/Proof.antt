@@ -1,4 +1,4 @@
--- `lent::items::desk_get_named` meets its contract, by the law of a desk that is passed on (`Passed.antt`), at `get`.
+-- By the law of a desk that is passed on (`Passed.antt`), at `get`. Assumes nothing.
 use mathlib.Core.List.{[], _∷_}
 use package.mir.Syntax.{w32}
 use Rattle.calls.specs.Calls.{get}

@@ -1,4 +1,4 @@
--- `lent::items::desk_put` meets its contract, by the law of a lent call (`Lent.antt`), at `desk::Desk::put`.
+-- By the law of a lent call (`Lent.antt`), at `desk::Desk::put`. Assumes nothing.
 use mathlib.Core.List.{[], _∷_}
 use package.mir.Syntax.{w32, w64}
 use Rattle.calls.specs.Calls.{put}

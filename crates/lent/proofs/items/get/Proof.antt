@@ -1,4 +1,4 @@
--- `lent::items::get` meets its contract, by the law of a lent call (`Lent.antt`), at `chosen`.
+-- By the law of a lent call (`Lent.antt`), at `chosen`. Assumes nothing.
 use mathlib.Core.List.{[], _∷_}
 use package.mir.Syntax.{w32}
 use Rattle.calls.specs.Calls.{get}

@@ -1,4 +1,4 @@
--- `lent::items::which_of` meets its contract. Assumes nothing.
+-- Each arm answers as its case of the definition: 0, 1, and every other number. Assumes nothing.
 use borrow.Author.Tests.{ne-eqb}
 use Rattle.lent.proofs.items.which_of.Statement.{statement}
 use Rattle.lent.proofs.items.which_of.Tie as tie

@@ -1,4 +1,4 @@
--- `lent::questions::desk_items_present` meets its contract, by the law of a question to a lent desk (`Asked.antt`), at `desk::Desk::items_present`.
+-- By the law of a question to a lent desk (`Asked.antt`), at `desk::Desk::items_present`. Assumes nothing.
 use mathlib.Core.List.{[]}
 use Rattle.calls.specs.Questions.{items-present}
 use Rattle.lent.proofs.Asked.{asked-of}

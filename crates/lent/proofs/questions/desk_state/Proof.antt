@@ -1,4 +1,4 @@
--- `lent::questions::desk_state` meets its contract, by the law of a question to a lent desk (`Asked.antt`), at `desk::Desk::state`.
+-- By the law of a question to a lent desk (`Asked.antt`), at `desk::Desk::state`. Assumes nothing.
 use mathlib.Core.List.{[], _∷_}
 use package.mir.Syntax.{w32}
 use Rattle.calls.specs.Questions.{state-of}

@@ -1,4 +1,4 @@
--- `lent::questions::desk_strong_bound` meets its contract, by the law of a question to a lent desk (`Asked.antt`), at `desk::Desk::strong_bound`.
+-- By the law of a question to a lent desk (`Asked.antt`), at `desk::Desk::strong_bound`. Assumes nothing.
 use mathlib.Core.List.{[]}
 use Rattle.calls.specs.Questions.{strong-bound}
 use Rattle.lent.proofs.Asked.{asked-of}

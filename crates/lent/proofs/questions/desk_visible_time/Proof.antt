@@ -1,4 +1,4 @@
--- `lent::questions::desk_visible_time` meets its contract, by the law of a question to a lent desk (`Asked.antt`), at `desk::Desk::visible_time`.
+-- By the law of a question to a lent desk (`Asked.antt`), at `desk::Desk::visible_time`. Assumes nothing.
 use mathlib.Core.List.{[], _∷_}
 use package.mir.Syntax.{w32}
 use Rattle.calls.specs.Questions.{visible-time}

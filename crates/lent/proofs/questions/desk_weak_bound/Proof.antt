@@ -1,4 +1,4 @@
--- `lent::questions::desk_weak_bound` meets its contract, by the law of a question to a lent desk (`Asked.antt`), at `desk::Desk::weak_bound`.
+-- By the law of a question to a lent desk (`Asked.antt`), at `desk::Desk::weak_bound`. Assumes nothing.
 use mathlib.Core.List.{[]}
 use Rattle.calls.specs.Questions.{weak-bound}
 use Rattle.lent.proofs.Asked.{asked-of}

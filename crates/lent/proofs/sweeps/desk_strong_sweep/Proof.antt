@@ -1,4 +1,4 @@
--- `lent::sweeps::desk_strong_sweep` meets its contract, by the law of a lent call with a lent slice (`Swept.antt`), at `desk::Desk::strong_sweep`.
+-- By the law of a lent call with a lent slice (`Swept.antt`), at `desk::Desk::strong_sweep`. Assumes nothing.
 use Rattle.calls.specs.Calls.{strong-sweep}
 use Rattle.lent.proofs.Swept.{swept-of}
 use Rattle.desk.proofs.Desk.strong_sweep.Symbol as callee

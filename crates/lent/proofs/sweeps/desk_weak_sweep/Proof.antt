@@ -1,4 +1,4 @@
--- `lent::sweeps::desk_weak_sweep` meets its contract, by the law of a lent call with a lent slice (`Swept.antt`), at `desk::Desk::weak_sweep`.
+-- By the law of a lent call with a lent slice (`Swept.antt`), at `desk::Desk::weak_sweep`. Assumes nothing.
 use Rattle.calls.specs.Calls.{weak-sweep}
 use Rattle.lent.proofs.Swept.{swept-of}
 use Rattle.desk.proofs.Desk.weak_sweep.Symbol as callee

@@ -1,4 +1,4 @@
--- `lent::threads::desk_end` meets its contract, by the law of a lent call (`Lent.antt`), at `desk::Desk::end`.
+-- By the law of a lent call (`Lent.antt`), at `desk::Desk::end`. Assumes nothing.
 use mathlib.Core.List.{[], _∷_}
 use package.mir.Syntax.{w32}
 use Rattle.calls.specs.Calls.{end}

@@ -1,4 +1,4 @@
--- `lent::threads::desk_new_thread` meets its contract, by the law of a lent call (`Lent.antt`), at `desk::Desk::new_thread`.
+-- By the law of a lent call (`Lent.antt`), at `desk::Desk::new_thread`. Assumes nothing.
 use mathlib.Core.List.{[], _∷_}
 use package.mir.Syntax.{w32}
 use Rattle.calls.specs.Calls.{new-thread}

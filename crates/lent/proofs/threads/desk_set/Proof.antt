@@ -1,4 +1,4 @@
--- `lent::threads::desk_set` meets its contract, by the law of a lent call (`Lent.antt`), at `desk::Desk::set`.
+-- By the law of a lent call (`Lent.antt`), at `desk::Desk::set`. Assumes nothing.
 use mathlib.Core.List.{[], _∷_}
 use package.mir.Syntax.{w32}
 use Rattle.calls.specs.Calls.{set-time}

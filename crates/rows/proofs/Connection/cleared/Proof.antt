@@ -1,4 +1,4 @@
--- `rows::Connection::cleared` meets its contract. Assumes nothing.
+-- Each of the two words is written once, without the places that left. Assumes nothing.
 use borrow.Author.Needs.{needs}
 use Rattle.rows.specs.Facts.{cleared}
 use Rattle.rows.proofs.Connection.cleared.Statement.{statement}

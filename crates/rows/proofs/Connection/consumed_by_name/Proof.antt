@@ -1,4 +1,4 @@
--- `rows::Connection::consumed_by_name` meets its contract. Assumes nothing.
+-- The place goes from the one word to the other, and the rest of the row is not touched. Assumes nothing.
 use borrow.Author.Needs.{needs}
 use Rattle.rows.specs.Facts.{consumedByName}
 use Rattle.rows.proofs.Connection.consumed_by_name.Statement.{statement}

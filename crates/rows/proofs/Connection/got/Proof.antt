@@ -1,4 +1,4 @@
--- `rows::Connection::got` meets its contract. Assumes nothing.
+-- The place joins the word of what was got, and the rest of the row is not touched. Assumes nothing.
 use borrow.Author.Needs.{needs}
 use Rattle.rows.specs.Facts.{got}
 use Rattle.rows.proofs.Connection.got.Statement.{statement}

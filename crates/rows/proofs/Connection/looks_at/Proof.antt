@@ -1,4 +1,4 @@
--- `rows::Connection::looks_at` meets its contract. Assumes nothing.
+-- The two tests, of the channel and of the mark, are the two parts of the definition, in its order. Assumes nothing.
 use borrow.Author.Tests.{eq-eqb, ne-eqb}
 use Rattle.rows.specs.States.{lookedAt}
 use Rattle.rows.proofs.Connection.looks_at.Statement.{statement}

@@ -1,4 +1,4 @@
--- `rows::Connection::raised` meets its contract. Assumes nothing.
+-- The mark is written once, as the larger of the two, and the rest of the row is not touched. Assumes nothing.
 use borrow.Author.Needs.{needs}
 use Rattle.rows.specs.Facts.{raised}
 use Rattle.rows.proofs.Connection.raised.Statement.{statement}

@@ -1,5 +1,5 @@
--- `rows::Connection::state_of` meets its contract. Assumes nothing.
--- Below, `inside` is where the timestamp is at or above the mark and the place is one of the 64, and `kept` where it was not consumed by name either.
+-- The four tests are those of the definition, in its order, so each of the five ways out is one of its cases. Assumes nothing.
+-- Below, `inside` is where the timestamp is at or above the mark and the place is an item's, and `kept` where it was not consumed by name either.
 use mathlib.Core.Path.{sym, _∙_}
 use borrow.Author.Needs.{needs}
 use borrow.Author.Tests.{lt-ltb, le-ltb, le-leb, lt-leb}

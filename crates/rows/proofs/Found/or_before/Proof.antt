@@ -1,4 +1,4 @@
--- `rows::Found::or_before` meets its contract. Assumes nothing.
+-- By what was found so far: nothing, and the item is taken; another item, and the one that comes before the other is. Assumes nothing.
 use mathlib.Core.Path.{sym, _∙_}
 use borrow.Author.Needs.{needs}
 use Rattle.rows.proofs.Found.or_before.Statement.{statement}

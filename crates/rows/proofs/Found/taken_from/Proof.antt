@@ -1,4 +1,4 @@
--- `rows::Found::taken_from` meets its contract. Assumes nothing.
+-- By what was found: its place leaves the places, or none does. Assumes nothing.
 use borrow.Author.Needs.{needs}
 use Rattle.rows.proofs.Found.taken_from.Statement.{statement}
 use Rattle.rows.proofs.Found.taken_from.Tie as tie

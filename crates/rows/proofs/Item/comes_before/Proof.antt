@@ -1,4 +1,4 @@
--- `rows::Item::comes_before` meets its contract. Assumes nothing.
+-- The test whether both lie in one channel decides, as in the definition, which two numbers are compared. Assumes nothing.
 use borrow.Author.Tests.{eq-eqb, ne-eqb}
 use Rattle.rows.specs.Choices.{before}
 use Rattle.rows.proofs.Item.comes_before.Statement.{statement}

@@ -1,4 +1,4 @@
--- `rows::Item::taken_before` meets its contract. Assumes nothing.
+-- Each arm compares the two timestamps in the order that its kind of get is defined by; a named one prefers none. Assumes nothing.
 use borrow.Author.Needs.{needs}
 use Rattle.rows.proofs.Item.taken_before.Statement.{statement}
 use Rattle.rows.proofs.Item.taken_before.Tie as tie

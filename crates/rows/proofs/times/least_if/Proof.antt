@@ -1,4 +1,4 @@
--- `rows::times::least_if` meets its contract. Assumes nothing.
+-- Where the time counts, the smaller of the two is taken, and where it does not the least stays. Assumes nothing.
 use borrow.Author.Needs.{needs}
 use Rattle.rows.specs.Times.{leastIf}
 use Rattle.rows.proofs.times.least_if.Statement.{statement}

@@ -1,4 +1,4 @@
--- `tables::places::in_use` meets its contract. Assumes nothing.
+-- The two tests, that the place is one of the table's and that it is in the word, are the two parts of the definition. Assumes nothing.
 use borrow.Author.Needs.{needs}
 use borrow.Author.Tests.{lt-ltb, le-ltb}
 use Rattle.tables.specs.Tables.{inUse}

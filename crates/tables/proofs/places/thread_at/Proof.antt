@@ -1,4 +1,4 @@
--- `tables::places::thread_at` meets its contract. Assumes nothing.
+-- A place past the table is past the list of its rows, which then answers zeros; any other is read. Assumes nothing.
 use mathlib.Core.Path.{sym}
 use borrow.Author.Needs.{needs}
 use native.Mathlib.Omega.{arith}

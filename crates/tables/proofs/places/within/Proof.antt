@@ -1,4 +1,4 @@
--- `tables::places::within` meets its contract. Assumes nothing.
+-- The one test is that of the definition. Assumes nothing.
 use borrow.Author.Tests.{lt-ltb, le-ltb}
 use Rattle.tables.proofs.places.within.Statement.{statement}
 use Rattle.tables.proofs.places.within.Tie as tie

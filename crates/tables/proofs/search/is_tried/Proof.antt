@@ -1,4 +1,4 @@
--- `tables::search::is_tried` meets its contract. Assumes nothing.
+-- The two tests, that the connection looks at the item and that the item is wanted, are the two parts of the definition. Assumes nothing.
 use mathlib.Core.Path.{sym, _∙_}
 use borrow.Author.Needs.{needs}
 use borrow.Author.Tests.{not-true, not-false}

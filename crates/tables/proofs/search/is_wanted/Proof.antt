@@ -1,4 +1,4 @@
--- `tables::search::is_wanted` meets its contract. Assumes nothing.
+-- Each arm answers as its case of the definition: a named timestamp is compared, the other two want every item. Assumes nothing.
 use borrow.Author.Needs.{needs}
 use Rattle.tables.proofs.search.is_wanted.Statement.{statement}
 use Rattle.tables.proofs.search.is_wanted.Tie as tie

@@ -1,4 +1,5 @@
--- `tables::search::place_of` meets its contract. Assumes nothing.
+-- The loop goes over the places of the word, lowest first, and leaves out each that does not hold the pair: so what is still to be found stays the
+-- same, until a place holds it or none is left. Assumes nothing.
 use mathlib.Core.Path.{_≡_, refl}
 use mathlib.Core.Logic.{⊎-elim}
 use mathlib.Core.Bool.{Bool, _&&_, and-false}

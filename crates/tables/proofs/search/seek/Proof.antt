@@ -1,4 +1,5 @@
--- `tables::search::seek` meets its contract. Assumes nothing.
+-- A place counts for the definition where the word of those that can be UNSEEN has it and the loop's own test passes, so the loop over that word
+-- finds what the definition finds among all places. After each turn the rest of the loop still finds it. Assumes nothing.
 use mathlib.Core.Path.{_≡_, refl, sym, ap, _∙_}
 use mathlib.Core.Bool.{Bool, true, false, cond, not, _&&_, and-false}
 use mathlib.Core.List.{List}

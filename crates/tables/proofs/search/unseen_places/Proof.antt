@@ -1,4 +1,4 @@
--- `tables::search::unseen_places` meets its contract. Assumes nothing.
+-- The places that were got are taken from the present ones, and then those that were consumed. Assumes nothing.
 use mathlib.Core.Path.{ap, _∙_}
 use Prim.Native.Nat.{ℕ}
 use borrow.Author.Needs.{needs}

@@ -1,4 +1,4 @@
--- `tables::times::awaits` meets its contract. Assumes nothing.
+-- The three tests, of the direction, the channel and the state, are the three parts of the definition, in its order. Assumes nothing.
 use mathlib.Core.Path.{ap, _∙_}
 use borrow.Author.Needs.{needs}
 use borrow.Author.Tests.{eq-eqb, ne-eqb}

@@ -1,4 +1,6 @@
--- `tables::times::least_awaited` meets its contract. Assumes nothing.
+-- The outer loop goes over the present items and the inner one over the connections. After each turn of either, what the rest of it still finds is
+-- what the whole finds: a connection once found to await the item settles it, and an item that could not lower the least needs none asked. Assumes
+-- nothing.
 use mathlib.Core.Path.{_≡_, refl, sym, _∙_}
 use native.Mathlib.Omega.{arith}
 use lib.ListN.{getD}

@@ -1,4 +1,5 @@
--- `tables::times::least_keep` meets its contract. Assumes nothing.
+-- After each turn the rest of the loop, from the least so far, still finds what the whole finds: the smallest mark of the inputs in use. Assumes
+-- nothing.
 use mathlib.Core.Path.{_≡_, refl, sym, _∙_}
 use borrow.Author.Needs.{needs}
 use native.Mathlib.Omega.{arith}

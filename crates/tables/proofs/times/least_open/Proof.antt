@@ -1,4 +1,5 @@
--- `tables::times::least_open` meets its contract. Assumes nothing.
+-- The outer loop goes over the connections in use and the inner one over the places that can be OPEN on one. After each turn of either, what the rest
+-- of it still finds is what the whole finds; the inner one has an empty word where the connection is not the thread's. Assumes nothing.
 use mathlib.Core.Path.{_≡_, refl, sym, _∙_}
 use native.Mathlib.Omega.{arith}
 use borrow.Author.Needs.{needs}

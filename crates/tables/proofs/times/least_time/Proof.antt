@@ -1,4 +1,5 @@
--- `tables::times::least_time` meets its contract. Assumes nothing.
+-- After each turn the rest of the loop, from the least so far, still finds what the whole finds: the smallest time of the living threads. Assumes
+-- nothing.
 use Rattle.tables.proofs.times.least_time.Statement.{statement}
 use Rattle.tables.proofs.times.least_time.Tie as tie
 use mathlib.Core.Path.{_≡_, refl, sym, _∙_}

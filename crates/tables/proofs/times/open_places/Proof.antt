@@ -1,4 +1,4 @@
--- `tables::times::open_places` meets its contract. Assumes nothing.
+-- Where the connection is looked at, a place can be OPEN that was got, is present and was not consumed; elsewhere the word is empty. Assumes nothing.
 use mathlib.Core.Path.{ap, _∙_}
 use borrow.Author.Needs.{needs}
 use Rattle.words.specs.Words.{both}

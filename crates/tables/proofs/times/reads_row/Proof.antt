@@ -1,4 +1,4 @@
--- `tables::times::reads_row` meets its contract. Assumes nothing.
+-- The two tests, of the direction and of the thread, are the two parts of the definition. Assumes nothing.
 use borrow.Author.Tests.{eq-eqb, ne-eqb}
 use Rattle.tables.proofs.times.reads_row.Statement.{statement}
 use Rattle.tables.proofs.times.reads_row.Tie as tie

@@ -1,4 +1,4 @@
--- `tables::times::worth_looking` meets its contract. Assumes nothing.
+-- The one test is that of the definition. Assumes nothing.
 use borrow.Author.Tests.{lt-ltb, le-ltb}
 use Rattle.tables.proofs.times.worth_looking.Statement.{statement}
 use Rattle.tables.proofs.times.worth_looking.Tie as tie
