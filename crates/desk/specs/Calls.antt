@@ -124,43 +124,6 @@ abbrev pub slice-long : Desk → ℕ → List ℕ → Check
 slice-long d bound slice =
     needs (leb (count (itemsBelow (itemsOf d) bound)) (length slice)) (answer 12 (count (itemsBelow (itemsOf d) bound)) 0)
 
--- what a thread does, with the refusals after 1. "Refusals are tested in the order written here."
-abbrev deedChecks : Desk → ℕ → Deed → List Check
-deedChecks d thread Channel = place-free (freeChannel d) channelPlaces ∷ []
-deedChecks d thread (NewThread time) = time-visible d thread time ∷ place-free (freeThread d) threadPlaces ∷ []
-deedChecks d thread (AttachInput channel) = channel-exists d channel ∷ place-free (freeConnection d) connectionPlaces ∷ []
-deedChecks d thread (AttachOutput channel) = channel-exists d channel ∷ place-free (freeConnection d) connectionPlaces ∷ []
-deedChecks d thread (Detach connection) = connection-owned d thread connection ∷ []
-deedChecks d thread End = []
-deedChecks d thread (Set time) = time-visible d thread time ∷ []
-deedChecks d thread (Put connection timestamp ticket) =
-    connection-owned d thread connection
-    ∷ connection-goes d connection output
-    ∷ timestamp-given timestamp
-    ∷ time-visible d thread timestamp
-    ∷ timestamp-absent d connection timestamp
-    ∷ item-fits d
-    ∷ []
-deedChecks d thread (Get connection which) =
-    connection-owned d thread connection
-    ∷ connection-goes d connection input
-    ∷ which-given which
-    ∷ item-found d connection which
-    ∷ []
-deedChecks d thread (Consume connection timestamp) =
-    connection-owned d thread connection
-    ∷ connection-goes d connection input
-    ∷ timestamp-given timestamp
-    ∷ item-open d connection timestamp
-    ∷ []
-deedChecks d thread (ConsumeUntil connection timestamp) =
-    connection-owned d thread connection ∷ connection-goes d connection input ∷ timestamp-given timestamp ∷ []
-
--- a call that names a thread is first asked whether it lives; a sweep names none
-unfoldable pub checks : Desk → Call → List Check
-checks d (by thread deed) = thread-lives d thread ∷ deedChecks d thread deed
-checks d (sweep bound slice) = slice-long d (boundOf d bound) slice ∷ []
-
 -- ---- the effects
 
 -- a new thread with this virtual time, whoever creates it
@@ -211,53 +174,101 @@ raisedTo d bound = withConnections d (d .attached) (raisedConnections (connectio
 unfoldable pub swept : Desk → ℕ → Desk
 swept d bound = raisedTo (left d (itemsBelow (itemsOf d) bound)) bound
 
-abbrev deedEffect : Desk → ℕ → Deed → Desk
-deedEffect d thread Channel = withChannels d (with (d .channels) (freeChannel d))
-deedEffect d thread (NewThread time) = adopted d time
-deedEffect d thread (AttachInput channel) = attachedAs d (connected input thread channel (visibleTime d thread))
-deedEffect d thread (AttachOutput channel) = attachedAs d (connected output thread channel 0)
-deedEffect d thread (Detach connection) =
-    withConnections d (without (d .attached) connection) (set (d .connections) connection noConnection)
-deedEffect d thread End = ended d thread
-deedEffect d thread (Set time) = withThreads d (d .living) (set (d .threads) thread (record { time = time }))
-deedEffect d thread (Put connection timestamp ticket) =
-    stored d (record { channel = connectionAt (connectionsOf d) connection .channel; timestamp = timestamp; ticket = ticket })
-deedEffect d thread (Get connection which) = becomesOpen d connection (soughtBy d connection which)
-deedEffect d thread (Consume connection timestamp) =
-    withConnection d connection
-    (consumedByName (connectionAt (connectionsOf d) connection)
-    (placeOf (itemsOf d) (connectionAt (connectionsOf d) connection .channel) timestamp))
-deedEffect d thread (ConsumeUntil connection timestamp) =
-    withConnection d connection (raised (connectionAt (connectionsOf d) connection) (timestamp + 1))
-
-unfoldable pub effect : Desk → Call → Desk
-effect d (by thread deed) = deedEffect d thread deed
-effect d (sweep bound slice) = swept d (boundOf d bound)
-
--- ---- the answers
+-- ---- the calls
 
 -- "ticket, timestamp"
 abbrev pub foundTold : Found → Told
 foundTold (At place item) = tells (item .ticket) (item .timestamp)
 foundTold Nothing = tells 0 0
 
--- the value and the time of an accepted call
-abbrev deedTold : Desk → ℕ → Deed → Told
-deedTold d thread Channel = tells (freeChannel d) 0
-deedTold d thread (NewThread time) = tells (freeThread d) 0
-deedTold d thread (AttachInput channel) = tells (freeConnection d) (visibleTime d thread)
-deedTold d thread (AttachOutput channel) = tells (freeConnection d) 0
-deedTold d thread (Detach connection) = tells 0 0
-deedTold d thread End = tells 0 0
-deedTold d thread (Set time) = tells 0 0
-deedTold d thread (Put connection timestamp ticket) = tells 0 0
-deedTold d thread (Get connection which) = foundTold (soughtBy d connection which)
-deedTold d thread (Consume connection timestamp) = tells 0 0
-deedTold d thread (ConsumeUntil connection timestamp) = tells 0 0
+-- a row of 01's table: the refusals in order; and of an accepted call the effect, and the value and the time that it tells
+pub record Row : Type 0 where
+  pub checks : List Check
+  pub effect : Desk
+  pub told : Told
+
+abbrev pub row : List Check → Desk → Told → Row
+row checks effect told = record { checks = checks; effect = effect; told = told }
+
+-- what a thread does, with the refusals after 1
+abbrev pub deedRow : Desk → ℕ → Deed → Row
+deedRow d thread Channel =
+    row (place-free (freeChannel d) channelPlaces ∷ [])
+    (withChannels d (with (d .channels) (freeChannel d)))
+    (tells (freeChannel d) 0)
+deedRow d thread (NewThread time) =
+    row (time-visible d thread time ∷ place-free (freeThread d) threadPlaces ∷ [])
+    (adopted d time)
+    (tells (freeThread d) 0)
+deedRow d thread (AttachInput channel) =
+    row (channel-exists d channel ∷ place-free (freeConnection d) connectionPlaces ∷ [])
+    (attachedAs d (connected input thread channel (visibleTime d thread)))
+    (tells (freeConnection d) (visibleTime d thread))
+deedRow d thread (AttachOutput channel) =
+    row (channel-exists d channel ∷ place-free (freeConnection d) connectionPlaces ∷ [])
+    (attachedAs d (connected output thread channel 0))
+    (tells (freeConnection d) 0)
+deedRow d thread (Detach connection) =
+    row (connection-owned d thread connection ∷ [])
+    (withConnections d (without (d .attached) connection) (set (d .connections) connection noConnection))
+    (tells 0 0)
+deedRow d thread End = row [] (ended d thread) (tells 0 0)
+deedRow d thread (Set time) =
+    row (time-visible d thread time ∷ [])
+    (withThreads d (d .living) (set (d .threads) thread (record { time = time })))
+    (tells 0 0)
+deedRow d thread (Put connection timestamp ticket) =
+    row
+    (connection-owned d thread connection
+    ∷ connection-goes d connection output
+    ∷ timestamp-given timestamp
+    ∷ time-visible d thread timestamp
+    ∷ timestamp-absent d connection timestamp
+    ∷ item-fits d
+    ∷ [])
+    (stored d (record { channel = connectionAt (connectionsOf d) connection .channel; timestamp = timestamp; ticket = ticket }))
+    (tells 0 0)
+deedRow d thread (Get connection which) =
+    row
+    (connection-owned d thread connection
+    ∷ connection-goes d connection input
+    ∷ which-given which
+    ∷ item-found d connection which
+    ∷ [])
+    (becomesOpen d connection (soughtBy d connection which))
+    (foundTold (soughtBy d connection which))
+deedRow d thread (Consume connection timestamp) =
+    row
+    (connection-owned d thread connection
+    ∷ connection-goes d connection input
+    ∷ timestamp-given timestamp
+    ∷ item-open d connection timestamp
+    ∷ [])
+    (withConnection d connection
+    (consumedByName (connectionAt (connectionsOf d) connection)
+    (placeOf (itemsOf d) (connectionAt (connectionsOf d) connection .channel) timestamp)))
+    (tells 0 0)
+deedRow d thread (ConsumeUntil connection timestamp) =
+    row (connection-owned d thread connection ∷ connection-goes d connection input ∷ timestamp-given timestamp ∷ [])
+    (withConnection d connection (raised (connectionAt (connectionsOf d) connection) (timestamp + 1)))
+    (tells 0 0)
+
+-- "Value is their number, time the bound."
+abbrev pub sweepRow : Desk → ℕ → List ℕ → Row
+sweepRow d bound slice = row (slice-long d bound slice ∷ []) (swept d bound) (tells (count (itemsBelow (itemsOf d) bound)) bound)
+
+-- a call that names a thread is first asked whether it lives; a sweep names none
+unfoldable pub checks : Desk → Call → List Check
+checks d (by thread deed) = thread-lives d thread ∷ deedRow d thread deed .checks
+checks d (sweep bound slice) = sweepRow d (boundOf d bound) slice .checks
+
+unfoldable pub effect : Desk → Call → Desk
+effect d (by thread deed) = deedRow d thread deed .effect
+effect d (sweep bound slice) = sweepRow d (boundOf d bound) slice .effect
 
 unfoldable pub told : Desk → Call → Told
-told d (by thread deed) = deedTold d thread deed
-told d (sweep bound slice) = tells (count (itemsBelow (itemsOf d) (boundOf d bound))) (boundOf d bound)
+told d (by thread deed) = deedRow d thread deed .told
+told d (sweep bound slice) = sweepRow d (boundOf d bound) slice .told
 
 -- the answer, and the next desk: the one that is given where all checks hold. A refusal "leaves the desk and the slice as they were".
 unfoldable pub outcome : Desk → List Check → Told → Desk → Next
