@@ -21,12 +21,9 @@ use Rattle.calls.specs.declared.Bound.the-variants.{Weak, Strong}
 use Rattle.calls.specs.Calls.{Call, by, sweep, sliceOf}
 use Rattle.calls.specs.Questions.{Question, visible-time, weak-bound, strong-bound, state-of, items-present}
 use Rattle.calls.specs.States.{stateNumber}
+pub use Rattle.calls.specs.Numbers.{never}
 
 -- ---- what is there
-
--- "The value 4,294,967,295 is called never. It is no timestamp; a virtual time, a mark or a bound may be never."
-abbrev pub never : ℕ
-never = 4294967295
 
 -- what a connection's number stands for: nothing, or a thread's connection to a channel, in one direction. "Each input connection has a mark",
 -- and on it each timestamp has a state.
