@@ -5,7 +5,7 @@ use Rattle.rules.proofs.Basis.{_≡_, sym, ap, subst, Bool, not, List, 
 use Rattle.rules.specs.Claims.{ItemsAreListed, AccountsBalance, FreshAccountsBalance}
 use Rattle.rules.specs.Rules.{everything, below, View, Item, Listed, Outcome, rule, Does}
 use Rattle.rules.specs.Runs.{fresh, Run, stop, next, Reply, replyOf, Gives, ifAccepted, acceptedPuts, ticketsBack}
-use Rattle.rules.proofs.Clear.{Clear, cleared, not-refused}
+use Rattle.rules.proofs.Clear.{Clear, cleared}
 use Rattle.rules.proofs.Made.{Made, quietly, puts, made}
 use Rattle.rules.proofs.One.{refuses-coded, all-settled}
 use Rattle.rules.proofs.OneList.{listed-one}
@@ -28,12 +28,12 @@ module _ (v : View) (items : List Item) (those : Listed v everything items) wher
   deed-tally thread deed out (quietly its value time w calm same) clear =
       record { more = items; those = same-listed w same; balance = rw calm (omega arith); fits = λ q. q }
   deed-tally thread deed out (puts connection channel timestamp ticket into) clear =
-      let (more, now, one-more) = stock-added v channel timestamp ticket (untaken v connection channel timestamp (not-refused (clear 7)) into) items those in
+      let (more, now, one-more) = stock-added v channel timestamp ticket (untaken v connection channel timestamp (clear 7) into) items those in
       record {
         more = more;
         those = now;
         balance = omega (arith, one-more);
-        fits = λ q. by-cases (ℕ-discrete (length items) 64) (λ full. absurd (not-refused (clear 8) (items, those, full))) (λ room. omega (arith, one-more));
+        fits = λ q. by-cases (ℕ-discrete (length items) 64) (λ full. absurd (clear 8 (items, those, full))) (λ room. omega (arith, one-more));
       }
 
   swept-tally : (bound : Bound) (slice : List ℕ) (out : Outcome) → rule v (sweep bound slice) .Accepts out → Tally (sweep bound slice) items out

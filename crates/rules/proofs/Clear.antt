@@ -1,6 +1,6 @@
 -- What is known of a call that nothing refuses: each refusal of its row is not the case, and is found there by its code, so that a refusal put between two
 -- others leaves the rest where they were. Assumes nothing.
-use Rattle.rules.proofs.Basis.{_≡_, refl, Bool, true, false, List, [], _∷_, ℕ, eqb, Call}
+use Rattle.rules.proofs.Basis.{Bool, true, false, List, [], _∷_, ℕ, eqb, Call}
 use Rattle.rules.specs.Rules.{View, Refusal, rule, Not, NoneOf}
 
 abbrev either : Bool → Type 0 → Type 0 → Type 0
@@ -25,7 +25,3 @@ Clear v call = (code : ℕ) → ClearOf (rule v call .refusals) code
 
 pub cleared : (v : View) (call : Call) → NoneOf (rule v call .refusals) → Clear v call
 cleared v call = clear-of (rule v call .refusals)
-
--- a refusal that does not answer is not the case
-pub not-refused : {Case : Type 0} → ((value time : ℕ) → Case × (value ≡ 0) × (time ≡ 0) → ⊥) → Case → ⊥
-not-refused clear case = clear 0 0 (case, refl, refl)

@@ -1,5 +1,5 @@
 -- Without a living thread every call that names one meets 1, its first refusal, and so none comes to life; and both bounds are never. Assumes nothing.
-use Rattle.rules.proofs.Basis.{_≡_, refl, sym, subst, true≢false, _⊎_, inl, inr, ⊎-elim, none, ℕ, arith, le-refl, Bound, Weak, Strong, Call, by, sweep}
+use Rattle.rules.proofs.Basis.{_≡_, sym, subst, true≢false, _⊎_, inl, inr, ⊎-elim, none, ℕ, arith, le-refl, Bound, Weak, Strong, Call, by, sweep}
 use Rattle.rules.specs.Claims.{RefusedWithoutThreads, ViewInOrder, NeverWithoutThreads}
 use Rattle.rules.specs.Rules.{View, Outcome, Does, Smallest, IsTime, never}
 use Rattle.rules.specs.Runs.{Run, stop, next}
@@ -13,7 +13,7 @@ Dead v = (thread : ℕ) → v .thread thread ≡ none
 
 dead-does : (v : View) → Dead v → (call : Call) (out : Outcome) → Does v call out → Dead (out .view)
 dead-does v dead call out (inl (refused, view, lent)) = subst Dead (sym view) dead
-dead-does v dead (by thread deed) out (inr (clear, accepts)) = absurd (clear .0 0 0 (dead thread, refl, refl))
+dead-does v dead (by thread deed) out (inr (clear, accepts)) = absurd (clear .0 (dead thread))
 dead-does v dead (sweep bound slice) out (inr (clear, (time, items, is, those, e))) = subst (λ (x : Outcome). Dead (x .view)) (sym e) dead
 
 dead-calls : {v w : View} → Run v w → Dead v → Dead w
@@ -21,9 +21,9 @@ dead-calls stop dead = dead
 dead-calls (next {v} {w} call out fits does rest) dead = dead-calls rest (dead-does v dead call out does)
 
 pub refused-without-threads : RefusedWithoutThreads
-refused-without-threads v w dead run (by thread deed) quiet out (inl (inl x, view, lent)) = (x .0, x .1 .1, x .1 .2)
-refused-without-threads v w dead run (by thread deed) quiet out (inl (inr x, view, lent)) = absurd (x .0 0 0 (dead-calls run dead thread, refl, refl))
-refused-without-threads v w dead run (by thread deed) quiet out (inr (clear, accepts)) = absurd (clear .0 0 0 (dead-calls run dead thread, refl, refl))
+refused-without-threads v w dead run (by thread deed) quiet out (inl (inl (case, code, value, time), view, lent)) = (code, value, time)
+refused-without-threads v w dead run (by thread deed) quiet out (inl (inr x, view, lent)) = absurd (x .0 (dead-calls run dead thread))
+refused-without-threads v w dead run (by thread deed) quiet out (inr (clear, accepts)) = absurd (clear .0 (dead-calls run dead thread))
 refused-without-threads v w dead run (sweep bound slice) quiet out does = absurd (true≢false quiet)
 
 -- ---- and with nobody there nothing pends

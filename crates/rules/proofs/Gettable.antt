@@ -64,7 +64,7 @@ get-ready v o k timestamp unseen w =
     let near = w .inside in
     let from = ap inputFrom (w .is) in (
       (omega arith, (omega arith, omega arith)),
-      (λ a b x. not-none lives (x .0)) and (λ a b x. x .0 (ap owner (w .is))) and (λ a b x. not-none from (x .0)) and (λ a b x. omega (arith, x .0)) and (λ a b x. x .0 timestamp (unseen, refl)) and tt,
+      (not-none lives) and (λ x. x (ap owner (w .is))) and (not-none from) and (λ x. omega (arith, x)) and (λ x. x timestamp (unseen, refl)) and tt,
       (w .channel, timestamp, w .ticket, from, (unseen, refl), w .there, refl),
     )
 
@@ -99,7 +99,7 @@ attach-then-get {start} {v} led item here thread (time, lives) number visible in
     let near = led .order .channels c exists in
     let ready : Ready v (attach-input thread c) (done number visible (withConnection v number new) []) = (
       (omega arith, omega arith),
-      (λ a b x. not-none lives (x .0)) and (λ a b x. true≢false (sym exists ∙ x .0)) and (λ a b x. x .0 number inside (low .0)) and tt,
+      (not-none lives) and (λ x. true≢false (sym exists ∙ x)) and (λ x. x number inside (low .0)) and tt,
       (number, visible, low, is, refl),
     ) in
     let row : withConnection v number new .connection number ≡ new = at-same (v .connection) number new in
@@ -152,7 +152,7 @@ module _ (start : View) (item : Item) (thread time : ℕ) (early : time ≤ item
           let (was, lives) = owned-fits v spare its (v .connection spare) (led .order .connections spare) own .1 in
           let small = led .order .threads its was lives .0 in
           let w : View = withConnection v spare unused in
-          let ready : Ready v (detach its spare) (done 0 0 w []) = ((omega arith, omega arith), (λ a b x. not-none lives (x .0)) and (λ a b x. x .0 own) and tt, refl) in
+          let ready : Ready v (detach its spare) (done 0 0 w []) = ((omega arith, omega arith), (not-none lives) and (λ x. x own) and tt, refl) in
           let led′ = led-on led (detach its spare) refl (done 0 0 w []) refl ready in
           ⊎-elim (λ (number, near, free). attaches w led′ here living still number near free) (λ none-free. absurd (none-free spare inside (at-same (v .connection) spare unused)))
           (search-below (FreeConnection w) (λ k. is-unused (w .connection k)) 32)

@@ -3,7 +3,7 @@ use Rattle.rules.proofs.Basis.{_≡_, _∙_, refl, sym, ap, ap₂, subs
 use Rattle.rules.proofs.Basis.{AttachOutput, Detach, End, Set, Put, Get, Consume, ConsumeUntil, Call, by, sweep, put, isPutDeed}
 use Rattle.rules.specs.Claims.{RefusedChangesNothing, OnlySweepsRemove, OnlyPutsBring}
 use Rattle.rules.specs.Rules.{View, outputTo, Item, IsPresent, Outcome, done, withItem, deedRow, rule}
-use Rattle.rules.proofs.Clear.{Clear, cleared, not-refused}
+use Rattle.rules.proofs.Clear.{Clear, cleared}
 use Rattle.rules.proofs.Laws.{not-none, item-elim, below-elim}
 use Rattle.rules.proofs.Ways.{untaken}
 
@@ -62,7 +62,7 @@ made-keeps : (v : View) (thread : ℕ) (deed : Deed) (out : Outcome) → Made v 
     → (item : Item) → IsPresent v item → IsPresent (out .view) item
 made-keeps v thread deed out (quietly its value time w calm same) clear item here = same (item .channel) (item .timestamp) ∙ here
 made-keeps v thread deed out (puts connection channel timestamp ticket into) clear item here =
-    withItem-keeps v channel timestamp ticket (untaken v connection channel timestamp (not-refused (clear 7)) into) item here
+    withItem-keeps v channel timestamp ticket (untaken v connection channel timestamp (clear 7) into) item here
 
 pub only-sweeps-remove : OnlySweepsRemove
 only-sweeps-remove v run call fits quiet out (inl (refused, same, lent)) item here = subst (λ (w : View). IsPresent w item) (sym same) here

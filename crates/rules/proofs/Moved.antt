@@ -5,7 +5,7 @@ use Rattle.rules.proofs.Basis.{NewThread, AttachInput, AttachOutput, De
 use Rattle.rules.specs.Claims.{OnlyGetsOpen, OnlyConsumesConsume, ConnectionsStay}
 use Rattle.rules.specs.Rules.{Connection, unused, output, input, View, at, owner, outputTo, inputFrom, KeepTime, stateOn, ifInput, seenAs, consumedBelow, noticed, noticing, unseenIf, firstSeen, freedFrom, Outcome, rule}
 use Rattle.rules.specs.Rules.{Does}
-use Rattle.rules.proofs.Clear.{Clear, cleared, not-refused}
+use Rattle.rules.proofs.Clear.{Clear, cleared}
 use Rattle.rules.proofs.Laws.{cond-elim, at-elim, below-elim, some-is, some-one, not-none}
 use Rattle.rules.proofs.Leaving.{swept-connection}
 
@@ -46,7 +46,7 @@ module _ (v : View) (k : ℕ) where
   moves (by thread (AttachOutput channel)) clear out (number, low, e) =
       subst (Goal (by thread (AttachOutput channel))) (sym e) (one-moves _ 0 number unused _ (low .0) (writes-now thread channel))
   moves (by thread (Detach connection)) clear out e = subst (Goal (by thread (Detach connection))) (sym e) (one-moves _ 0 connection _ unused refl
-      (given-up thread (v .connection connection) (Dec·not-not (some-is thread (owner (v .connection connection))) .0 (not-refused (clear 3))) (inl refl)))
+      (given-up thread (v .connection connection) (Dec·not-not (some-is thread (owner (v .connection connection))) .0 (clear 3)) (inl refl)))
   moves (by thread End) clear out e = subst (Goal (by thread End)) (sym e) (freed-moved (by thread End) 0 k thread refl (v .connection k))
   moves (by thread (Set time)) clear out e = subst (Goal (by thread (Set time))) (sym e) (kept (v .connection k))
   moves (by thread (Put connection timestamp ticket)) clear out (channel, into, e) =

@@ -26,11 +26,12 @@ below-one v bound a b l m is is′ those those′ =
     let same : a ≡ b = bound-one v bound a b is is′ in
     (same, listed-one (subst (λ (x : ℕ). Listed v (below x) l) same those) those′)
 
--- ---- a refusal has a code, and answers one thing
+-- ---- a refusal has a code, and answers one thing, whichever way it is the case
 
 pub record Settled (r : Refusal) : Type 0 where
   pub coded : eqb (r .code) 0 ≡ false
-  pub once : (v t w u : ℕ) → r .Answers v t → r .Answers w u → (v ≡ w) × (t ≡ u)
+  pub one-value : (case other : r .Case) → r .value case ≡ r .value other
+  pub one-time : (case other : r .Case) → r .time case ≡ r .time other
 
 -- what holds of every refusal of a list
 infixr 20 _&_
@@ -39,13 +40,13 @@ pub data Every (P : Refusal → Type 0) : List Refusal → Type 1 where
   _&_ : {r : Refusal} {rs : List Refusal} → P r → Every P rs → Every P (r ∷ rs)
 
 plainly : (code : ℕ) (Case : Type 0) → eqb code 0 ≡ false → Settled (refuse code Case)
-plainly code Case coded = record { coded = coded; once = λ v t w u x y. (x .1 ∙ sym (y .1), x .2 ∙ sym (y .2)) }
+plainly code Case coded = record { coded = coded; one-value = λ case other. refl; one-time = λ case other. refl }
 
 counted : (v : View) (bound : Bound) (slice : List ℕ) → Settled (slice-short v (BoundOf v bound) slice)
 counted v bound slice = record {
   coded = refl;
-  once = λ a t b u (time, items, is, those, short, value, nought) (time′, items′, is′, those′, short′, value′, nought′).
-      (value ∙ ap length (below-one v bound time time′ items items′ is is′ those those′ .1) ∙ sym value′, nought ∙ sym nought′);
+  one-value = λ (time, items, is, those, short) (time′, items′, is′, those′, short′). ap length (below-one v bound time time′ items items′ is is′ those those′ .1);
+  one-time = λ case other. refl;
 }
 
 -- a refusal that tells nothing beside its code needs no word here
@@ -67,19 +68,20 @@ all-settled v (sweep bound slice) = counted v bound slice & nothing-more
 
 refuses-one : (rs : List Refusal) → Every Settled rs → (c v t b w u : ℕ) → Refuses rs c v t → Refuses rs b w u → (c ≡ b) × (v ≡ w) × (t ≡ u)
 refuses-one [] nothing-more c v t b w u x y = absurd x
-refuses-one (r ∷ rs) (s & ss) c v t b w u (inl x) (inl y) = let same = s .once v t w u (x .1) (y .1) in (x .0 ∙ sym (y .0), same .0, same .1)
-refuses-one (r ∷ rs) (s & ss) c v t b w u (inl x) (inr y) = absurd (y .0 v t (x .1))
-refuses-one (r ∷ rs) (s & ss) c v t b w u (inr x) (inl y) = absurd (x .0 w u (y .1))
+refuses-one (r ∷ rs) (s & ss) c v t b w u (inl (x, code, value, time)) (inl (y, code′, value′, time′)) =
+    (code ∙ sym code′, value ∙ s .one-value x y ∙ sym value′, time ∙ s .one-time x y ∙ sym time′)
+refuses-one (r ∷ rs) (s & ss) c v t b w u (inl x) (inr y) = absurd (y .0 (x .0))
+refuses-one (r ∷ rs) (s & ss) c v t b w u (inr x) (inl y) = absurd (x .0 (y .0))
 refuses-one (r ∷ rs) (s & ss) c v t b w u (inr x) (inr y) = refuses-one rs ss c v t b w u (x .1) (y .1)
 
 pub refuses-coded : (rs : List Refusal) → Every Settled rs → (code value time : ℕ) → Refuses rs code value time → eqb code 0 ≡ false
 refuses-coded [] nothing-more code value time x = absurd x
-refuses-coded (r ∷ rs) (s & ss) code value time (inl x) = ap (λ (c : ℕ). eqb c 0) (x .0) ∙ s .coded
+refuses-coded (r ∷ rs) (s & ss) code value time (inl x) = ap (λ (c : ℕ). eqb c 0) (x .1) ∙ s .coded
 refuses-coded (r ∷ rs) (s & ss) code value time (inr x) = refuses-coded rs ss code value time (x .1)
 
 not-both : (rs : List Refusal) (c v t : ℕ) → Refuses rs c v t → NoneOf rs → ⊥
 not-both [] c v t x clear = x
-not-both (r ∷ rs) c v t (inl x) clear = clear .0 v t (x .1)
+not-both (r ∷ rs) c v t (inl x) clear = clear .0 (x .0)
 not-both (r ∷ rs) c v t (inr x) clear = not-both rs c v t (x .1) (clear .1)
 
 -- what answers 0 was not refused

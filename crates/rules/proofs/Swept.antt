@@ -35,14 +35,14 @@ module _ (v : View) (bound : Bound) (time : ℕ) (is : BoundOf v bound time) (it
   handed : (slice : List ℕ) → length items ≤ length slice → (o : Outcome) → Does v (sweep bound slice) o → Handed v bound items slice o
   handed slice enough o does =
       let accepted : Does v (sweep bound slice) (done (length items) time (swept v time) (tickets items ++ drop (length items) slice)) = inr (
-        (λ value nought (other, listed, is′, those′, short, a, b). omega (arith, ap length (below-one v bound other time listed items is′ is those′ those .1)), tt),
+        (λ (other, listed, is′, those′, short). omega (arith, ap length (below-one v bound other time listed items is′ is those′ those .1)), tt),
         (time, items, is, those, refl),
       ) in
       subst (Handed v bound items slice) (does-one-thing v (sweep bound slice) _ o accepted does) (record { code = refl; value = refl; time = is; slice = refl; stays = stays-present })
 
   too-short : (slice : List ℕ) → length slice < length items → (o : Outcome) → Does v (sweep bound slice) o
       → o ≡ record { code = 12; value = length items; time = 0; view = v; slice = slice }
-  too-short slice few o does = does-one-thing v (sweep bound slice) o _ does (inl (inl (refl, (time, items, is, those, few, refl, refl)), refl, refl))
+  too-short slice few o does = does-one-thing v (sweep bound slice) o _ does (inl (inl ((time, items, is, those, few), refl, refl, refl), refl, refl))
 
   pub hands-back : HandsBack v bound items
   hands-back = record { in-line = those .in-line; long = handed; short = too-short }

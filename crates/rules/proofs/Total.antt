@@ -1,12 +1,12 @@
 -- Every call is answered: each refusal can be decided, and where none is the case there is an outcome that the call leads to. Assumes nothing.
-use Rattle.rules.proofs.Basis.{_≡_, _≢_, _∙_, refl, ap, subst, false, Bool-discrete, List, [], _∷_, _⊎_, inl, inr, ⊎-elim, by-cases, Dec·not, Dec·not-not, Option, none, some, Option-discrete, ℕ, _<_, decLt, decLe}
+use Rattle.rules.proofs.Basis.{_≡_, _≢_, _∙_, refl, ap, subst, false, Bool-discrete, List, [], _∷_, _⊎_, inl, inr, ⊎-elim, Dec·not, Dec·not-not, Option, none, some, Option-discrete, ℕ, _<_, decLt, decLe}
 use Rattle.rules.proofs.Basis.{ℕ-discrete, map-dec, arith, length, Unseen, Open, Which, Earliest, Latest, Named, Channel, NewThread, AttachInput, AttachOutput, Detach, End, Set, Put, Get, Consume, ConsumeUntil, Bound, Weak}
 use Rattle.rules.proofs.Basis.{Strong, Call, by, sweep, sliceOf}
 use Rattle.calls.specs.Questions.{Question, visible-time, weak-bound, strong-bound, state-of, items-present}
 use Rattle.rules.specs.Claims.{EveryCallAnswered, EveryQuestionAnswered, ViewInOrder}
-use Rattle.rules.specs.Rules.{never, everything, View, owner, outputTo, inputFrom, stateOn, VisibleTime, Item, Listed, Refusal, refuse, NamesNever, FreeThread, FreeChannel, FreeConnection, TakesUnseen, slice-short, Outcome}
+use Rattle.rules.specs.Rules.{never, everything, View, owner, outputTo, inputFrom, stateOn, VisibleTime, Item, Listed, Refusal, NamesNever, FreeThread, FreeChannel, FreeConnection, TakesUnseen, slice-short, Outcome}
 use Rattle.rules.specs.Rules.{Lowest, rule, Refuses, NoneOf, Does, BoundOf, askedOf, Says}
-use Rattle.rules.proofs.Clear.{Clear, cleared, not-refused}
+use Rattle.rules.proofs.Clear.{Clear, cleared}
 use Rattle.rules.proofs.Accounts.{items-are-listed}
 use Rattle.rules.proofs.Bounds.{bound-is-there}
 use Rattle.rules.proofs.Gettable.{is-unused}
@@ -21,11 +21,7 @@ use Rattle.rules.proofs.Ways.{waiting, takes-fits}
 -- ---- the refusals are decided
 
 abbrev Settles : Refusal → Type 0
-Settles r = ((value time : ℕ) × r .Answers value time) ⊎ ((value time : ℕ) → r .Answers value time → ⊥)
-
-plain : {Case : Type 0} (code : ℕ) → Dec Case → Settles (refuse code Case)
-plain code (yes so) = inl (0, 0, (so, refl, refl))
-plain code (no not-so) = inr (λ value time x. not-so (x .0))
+Settles r = Dec (r .Case)
 
 abbrev Verdict : List Refusal → Type 0
 Verdict rs = ((code value time : ℕ) × Refuses rs code value time) ⊎ NoneOf rs
@@ -35,9 +31,9 @@ verdict [] nothing-more = inr tt
 verdict (r ∷ rs) (first & later) = go first (verdict rs later)
   where
     go : Settles r → Verdict rs → Verdict (r ∷ rs)
-    go (inl (value, time, x)) rest = inl (r .code, value, time, inl (refl, x))
-    go (inr clear) (inl (code, value, time, x)) = inl (code, value, time, inr (clear, x))
-    go (inr clear) (inr rest) = inr (clear, rest)
+    go (yes case) rest = inl (r .code, r .value case, r .time case, inl (case, refl, refl, refl))
+    go (no clear) (inl (code, value, time, x)) = inl (code, value, time, inr (clear, x))
+    go (no clear) (inr rest) = inr (clear, rest)
 
 is-none : (o : Option ℕ) → Dec (o ≡ none)
 is-none o = Option-discrete ℕ-discrete o none
@@ -93,8 +89,8 @@ module _ (v : View) (o : ViewInOrder v) (items : List Item) (those : Listed v ev
   short-settles : (bound : Bound) (slice : List ℕ) → Settles (slice-short v (BoundOf v bound) slice)
   short-settles bound slice =
       let (time, low, is, listed) = low-items v o items those bound in
-      by-cases (decLt (length slice) (length low)) (λ short. inl (length low, 0, (time, low, is, listed, short, refl, refl)))
-      (λ long. inr (λ value nought (time′, low′, is′, listed′, short, a, b). omega (arith, ap length (below-one v bound time time′ low low′ is is′ listed listed′ .1))))
+      map-dec (λ short. (time, low, is, listed, short))
+      (λ (time′, low′, is′, listed′, short). omega (arith, ap length (below-one v bound time time′ low low′ is is′ listed listed′ .1))) (decLt (length slice) (length low))
 
   -- the places of the three tables
   threads-is : (n : ℕ) → Dec (FreeThread v n)
@@ -113,7 +109,7 @@ module _ (v : View) (o : ViewInOrder v) (items : List Item) (those : Listed v ev
   open-is connection timestamp = Dec·not (state-is Open (stateOn (v .connection connection) timestamp))
 
   -- how each refusal is decided; one that compares numbers needs no word here
-  ruleset decisions = (_&_, nothing-more, plain, is-none, Bool-discrete, decLe, decLt, ℕ-discrete, free-is, threads-is, channels-is, connections-is, own-is, early-is, taken-is, full-is, named-is, lacks-is, open-is)
+  ruleset decisions = (_&_, nothing-more, is-none, Bool-discrete, decLe, decLt, ℕ-discrete, free-is, threads-is, channels-is, connections-is, own-is, early-is, taken-is, full-is, named-is, lacks-is, open-is)
 
   settles : (call : Call) → Every Settles (rule v call .refusals)
   settles (by thread Channel) = search decisions depth 12
@@ -133,25 +129,25 @@ module _ (v : View) (o : ViewInOrder v) (items : List Item) (those : Listed v ev
 
   accepts : (call : Call) → Clear v call → (out : Outcome) × rule v call .Accepts out
   accepts (by thread Channel) clear =
-      let (number, low) = lowest-free 8 (FreeChannel v) (λ n. Bool-discrete (v .channel n) false) (not-refused (clear 9)) in
+      let (number, low) = lowest-free 8 (FreeChannel v) (λ n. Bool-discrete (v .channel n) false) (clear 9) in
       (_, (number, low, refl))
   accepts (by thread (NewThread time)) clear =
-      let (number, low) = lowest-free 16 (FreeThread v) (λ n. is-none (v .thread n)) (not-refused (clear 9)) in
+      let (number, low) = lowest-free 16 (FreeThread v) (λ n. is-none (v .thread n)) (clear 9) in
       (_, (number, low, refl))
   accepts (by thread (AttachInput channel)) clear =
-      let (number, low) = lowest-free 32 (FreeConnection v) (λ n. is-unused (v .connection n)) (not-refused (clear 9)) in
+      let (number, low) = lowest-free 32 (FreeConnection v) (λ n. is-unused (v .connection n)) (clear 9) in
       let (visible, is) = Ways.visible-time v o thread in
       (_, (number, visible, low, is, refl))
   accepts (by thread (AttachOutput channel)) clear =
-      let (number, low) = lowest-free 32 (FreeConnection v) (λ n. is-unused (v .connection n)) (not-refused (clear 9)) in
+      let (number, low) = lowest-free 32 (FreeConnection v) (λ n. is-unused (v .connection n)) (clear 9) in
       (_, (number, low, refl))
   accepts (by thread (Detach connection)) clear = (_, refl)
   accepts (by thread End) clear = (_, refl)
   accepts (by thread (Set time)) clear = (_, refl)
   accepts (by thread (Put connection timestamp ticket)) clear =
-      option-cases (outputTo (v .connection connection)) (λ e. absurd (not-refused (clear 4) e)) (λ channel e. (_, (channel, e, refl)))
+      option-cases (outputTo (v .connection connection)) (λ e. absurd (clear 4 e)) (λ channel e. (_, (channel, e, refl)))
   accepts (by thread (Get connection which)) clear =
-      let (timestamp, takes) = Dec·not-not (takes-is connection which) .0 (λ lacks. not-refused (clear 10) (λ t q. lacks (t, q))) in
+      let (timestamp, takes) = Dec·not-not (takes-is connection which) .0 (λ lacks. clear 10 (λ t q. lacks (t, q))) in
       let w = waiting v o connection timestamp (inl (takes-fits which _ timestamp takes)) in
       (_, (w .channel, timestamp, w .ticket, ap inputFrom (w .is), takes, w .there, refl))
   accepts (by thread (Consume connection timestamp)) clear = (_, refl)

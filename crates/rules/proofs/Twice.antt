@@ -3,7 +3,7 @@ use Rattle.rules.proofs.Basis.{_≡_, _∙_, refl, sym, ap₂, subst, _
 use Rattle.rules.specs.Claims.{ViewInOrder, PutBy, ComesBackAsPut, NoPairTwice}
 use Rattle.rules.specs.Rules.{Pairs, View, left, Outcome}
 use Rattle.rules.specs.Runs.{Run, Reachable}
-use Rattle.rules.proofs.Clear.{cleared, not-refused}
+use Rattle.rules.proofs.Clear.{cleared}
 use Rattle.rules.proofs.Bounds.{at-least-kind}
 use Rattle.rules.proofs.Connections.{Allowed}
 use Rattle.rules.proofs.Laws.{cond-elim, some-one, not-none, item-elim}
@@ -69,5 +69,5 @@ no-pair-twice v w run channel timestamp ticket other out last first calls again 
     let (o, spent) = spent-after v w run channel timestamp ticket out first calls in
     let call = put (again .thread) (again .connection) timestamp other in
     let clear = cleared w call (accepted w call last (again .does) (again .accepted) .0) in
-    ⊎-elim (λ here. not-refused (clear 7) (channel, ticket, again .into, here))
-    (λ (lacks, above). omega (arith, at-least-allowed above timestamp (allowed w o (again .thread) timestamp (not-refused (clear 6))))) spent
+    ⊎-elim (λ here. clear 7 (channel, ticket, again .into, here))
+    (λ (lacks, above). omega (arith, at-least-allowed above timestamp (allowed w o (again .thread) timestamp (clear 6)))) spent

@@ -6,7 +6,7 @@ use Rattle.rules.proofs.Basis.{Bound, Weak, Strong, Call, by, sweep, Ti
 use Rattle.rules.specs.Claims.{Living, ViewInOrder}
 use Rattle.rules.specs.Rules.{never, Pairs, below, Connection, unused, output, input, View, withThread, withChannel, withConnection, owner, outputTo, KeepTime, stateOn, IsTime, VisibleTime, BoundOf, Takes, Outcome, Lowest}
 use Rattle.rules.specs.Rules.{withItem, ended, left, raised, deedRow, rule, Does, seenAs}
-use Rattle.rules.proofs.Clear.{Clear, cleared, not-refused}
+use Rattle.rules.proofs.Clear.{Clear, cleared}
 use Rattle.rules.proofs.Connections.{Turned, Allowed, Waits, ConnectionFitsIn, Turn, absent-done, reads, turned-freed, writes, turned-seen-as, turned-noticing, turned-raised, sees-first, seen-there, fits-seen-as}
 use Rattle.rules.proofs.Connections.{seen-above, fits-raised, freed, alike, opens, consumes}
 use Rattle.rules.proofs.Laws.{smallest-above, not-below, option-cases, smallest, at-elim, either, some-is, exists-below, state-is, smallest-one}
@@ -154,31 +154,31 @@ module _ (v : View) (o : ViewInOrder v) where
       changes number _ (fits-seen-as v number state timestamp there (v .connection number) waits (o .connections number)) (turned-seen-as v state timestamp (v .connection number) turn)
 
   pub deed-kind : (thread : ℕ) (deed : Deed) → Passable (by thread deed) → Clear v (by thread deed) → (out : Outcome) → deedRow v thread deed .Accepts out → Goal out
-  deed-kind thread Channel fits clear out (number, low, e) = subst Goal (sym e) (makes number (free-inside 8 low (not-refused (clear 9))))
+  deed-kind thread Channel fits clear out (number, low, e) = subst Goal (sym e) (makes number (free-inside 8 low (clear 9)))
   deed-kind thread (NewThread time) fits clear out (number, low, e) =
-      subst Goal (sym e) (sets number time (free-inside 16 low (not-refused (clear 9))) (omega (arith, fits .1)) (allowed v o thread time (not-refused (clear 6))))
+      subst Goal (sym e) (sets number time (free-inside 16 low (clear 9)) (omega (arith, fits .1)) (allowed v o thread time (clear 6)))
   deed-kind thread (AttachInput channel) fits clear out (number, visible, low, is, e) = subst Goal (sym e) (attach-kind number _ (low .0)
-      (free-inside 32 low (not-refused (clear 9)), lives v thread (not-refused (clear 1)), is-there (v .channel channel) (not-refused (clear 2)), is .at-most-never, sees-first (v .item channel) visible)
+      (free-inside 32 low (clear 9), lives v thread (clear 1), is-there (v .channel channel) (clear 2), is .at-most-never, sees-first (v .item channel) visible)
       (reads thread channel visible (thread, visible, is, le-refl visible)))
   deed-kind thread (AttachOutput channel) fits clear out (number, low, e) = subst Goal (sym e) (attach-kind number _ (low .0)
-      (free-inside 32 low (not-refused (clear 9)), lives v thread (not-refused (clear 1)), is-there (v .channel channel) (not-refused (clear 2))) (writes thread channel))
+      (free-inside 32 low (clear 9), lives v thread (clear 1), is-there (v .channel channel) (clear 2)) (writes thread channel))
   deed-kind thread (Detach connection) fits clear out e = subst Goal (sym e) (changes connection unused tt (freed (v .connection connection)))
   deed-kind thread End fits clear out e = subst Goal (sym e) (ends thread)
   deed-kind thread (Set time) fits clear out e =
-      let (was, is) = lives v thread (not-refused (clear 1)) in
-      subst Goal (sym e) (sets thread time (o .threads thread was is .0) (omega (arith, fits .1)) (allowed v o thread time (not-refused (clear 6))))
+      let (was, is) = lives v thread (clear 1) in
+      subst Goal (sym e) (sets thread time (o .threads thread was is .0) (omega (arith, fits .1)) (allowed v o thread time (clear 6)))
   deed-kind thread (Put connection timestamp ticket) fits clear out (channel, into, e) = subst Goal (sym e) (stocks channel timestamp ticket
       (written-exists v connection channel (v .connection connection) (o .connections connection) into)
-      (lt-of-not-le (not-refused (clear 5))) (fits .1 .2) (allowed v o thread timestamp (not-refused (clear 6)))
-      (untaken v connection channel timestamp (not-refused (clear 7)) into))
+      (lt-of-not-le (clear 5)) (fits .1 .2) (allowed v o thread timestamp (clear 6))
+      (untaken v connection channel timestamp (clear 7) into))
   deed-kind thread (Get connection which) fits clear out (channel, timestamp, ticket, from, takes, there, e) =
       let unseen : stateOn (v .connection connection) timestamp ≡ Unseen = takes-fits which _ timestamp takes in
       subst Goal (sym e) (sees-kind connection timestamp Open (omega arith) (inl unseen) (rw unseen opens))
   deed-kind thread (Consume connection timestamp) fits clear out e =
-      let is-open = Dec·not-not (state-is Open (stateOn (v .connection connection) timestamp)) .0 (not-refused (clear 11)) in
+      let is-open = Dec·not-not (state-is Open (stateOn (v .connection connection) timestamp)) .0 (clear 11) in
       subst Goal (sym e) (sees-kind connection timestamp Consumed (omega arith) (inr is-open) (consumes _))
   deed-kind thread (ConsumeUntil connection timestamp) fits clear out e = subst Goal (sym e) (changes connection _
-      (fits-raised v connection (suc timestamp) (lt-of-not-le (not-refused (clear 5))) (v .connection connection) (o .connections connection))
+      (fits-raised v connection (suc timestamp) (lt-of-not-le (clear 5)) (v .connection connection) (o .connections connection))
       (turned-raised v (suc timestamp) (v .connection connection)))
 
   accepted-leads : (call : Call) → Passable call → Clear v call → (out : Outcome) → rule v call .Accepts out → Leads v (out .view)

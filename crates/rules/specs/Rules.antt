@@ -257,14 +257,16 @@ TakesUnseen v connection which = Takes which (λ timestamp. stateOn (v .connecti
 
 -- ---- the refusals
 
--- a code, and what it takes to be refused with it and to be answered this value and this time
+-- a code, what it takes to be refused with it, and what value and time then go with it
 pub record Refusal : Type 1 where
   pub code : ℕ
-  pub Answers : (value time : ℕ) → Type 0
+  pub Case : Type 0
+  pub value : Case → ℕ
+  pub time : Case → ℕ
 
 -- "A refusal answers value 0 and time 0, .."
 abbrev pub refuse : ℕ → Type 0 → Refusal
-refuse code Case = record { code = code; Answers = λ value time. Case × (value ≡ 0) × (time ≡ 0) }
+refuse code Case = record { code = code; Case = Case; value = λ _. 0; time = λ _. 0 }
 
 -- 1: "no such living thread"
 abbrev pub no-thread : View → ℕ → Refusal
@@ -330,7 +332,9 @@ not-open v connection timestamp = refuse 11 (stateOn (v .connection connection) 
 abbrev pub slice-short : View → (ℕ → Type 0) → List ℕ → Refusal
 slice-short v IsBound slice = record {
   code = 12;
-  Answers = λ value time. (bound : ℕ) × (items : List Item) × IsBound bound × Listed v (below bound) items × (length slice < length items) × (value ≡ length items) × (time ≡ 0);
+  Case = (bound : ℕ) × (items : List Item) × IsBound bound × Listed v (below bound) items × (length slice < length items);
+  value = λ (bound, items, is, those, short). length items;
+  time = λ _. 0;
 }
 
 -- ---- what an accepted call leads to
@@ -433,12 +437,14 @@ rule v (sweep bound slice) = sweepRow v (BoundOf v bound) slice
 
 -- it is not the case
 abbrev pub Not : Refusal → Type 0
-Not refusal = (value time : ℕ) → refusal .Answers value time → ⊥
+Not refusal = refusal .Case → ⊥
 
 -- "Refusals are tested in the order written here.": the first that is the case answers
 abbrev pub Refuses : List Refusal → ℕ → ℕ → ℕ → Type 0
 Refuses [] code value time = ⊥
-Refuses (first ∷ later) code value time = ((code ≡ first .code) × first .Answers value time) ⊎ (Not first × Refuses later code value time)
+Refuses (first ∷ later) code value time =
+    ((case : first .Case) × (code ≡ first .code) × (value ≡ first .value case) × (time ≡ first .time case))
+    ⊎ (Not first × Refuses later code value time)
 
 -- none is the case
 abbrev pub NoneOf : List Refusal → Type 0
