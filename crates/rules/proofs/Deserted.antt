@@ -4,6 +4,7 @@ use Rattle.rules.specs.Claims.{RefusedWithoutThreads, ViewInOrder, Never
 use Rattle.rules.specs.Rules.{View, Outcome, Does, Smallest, IsTime, never}
 use Rattle.rules.specs.Runs.{Run, stop, next}
 use Rattle.rules.proofs.Bounds.{pending-inside}
+use Rattle.rules.proofs.Clear.{cleared}
 use Rattle.rules.proofs.Laws.{not-none}
 use Rattle.rules.proofs.Order.{every-view-in-order}
 use Rattle.rules.proofs.Ways.{Pending}
@@ -13,7 +14,7 @@ Dead v = (thread : ℕ) → v .thread thread ≡ none
 
 dead-does : (v : View) → Dead v → (call : Call) (out : Outcome) → Does v call out → Dead (out .view)
 dead-does v dead call out (inl (refused, view, lent)) = subst Dead (sym view) dead
-dead-does v dead (by thread deed) out (inr (clear, accepts)) = absurd (clear .0 (dead thread))
+dead-does v dead (by thread deed) out (inr (clear, accepts)) = absurd (cleared v (by thread deed) clear 1 (dead thread))
 dead-does v dead (sweep bound slice) out (inr (clear, (time, items, is, those, e))) = subst (λ (x : Outcome). Dead (x .view)) (sym e) dead
 
 dead-calls : {v w : View} → Run v w → Dead v → Dead w
@@ -22,8 +23,8 @@ dead-calls (next {v} {w} call out fits does rest) dead = dead-calls rest (dead-d
 
 pub refused-without-threads : RefusedWithoutThreads
 refused-without-threads v w dead run (by thread deed) quiet out (inl (inl (case, code, value, time), view, lent)) = (code, value, time)
-refused-without-threads v w dead run (by thread deed) quiet out (inl (inr x, view, lent)) = absurd (x .0 (dead-calls run dead thread))
-refused-without-threads v w dead run (by thread deed) quiet out (inr (clear, accepts)) = absurd (clear .0 (dead-calls run dead thread))
+refused-without-threads v w dead run (by thread deed) quiet out (inl (inr (lives, later), view, lent)) = absurd (lives (dead-calls run dead thread))
+refused-without-threads v w dead run (by thread deed) quiet out (inr (clear, accepts)) = absurd (cleared w (by thread deed) clear 1 (dead-calls run dead thread))
 refused-without-threads v w dead run (sweep bound slice) quiet out does = absurd (true≢false quiet)
 
 -- ---- and with nobody there nothing pends

@@ -1,13 +1,13 @@
 -- What could be got: nothing below the strong bound, for no call lowers it; and all else, by a thread whose visible time is low. Assumes nothing.
-use Rattle.rules.proofs.Basis.{_≡_, _∙_, refl, sym, ap, subst, false, true≢false, [], _⊎_, inl, inr, ⊎-elim, by-cases, some, Option·none-ne-some, ℕ, _≤_, _<_, ℕ-discrete, arith, le-ltb, Unseen, Open, Which, Named, Strong}
+use Rattle.rules.proofs.Basis.{_≡_, _∙_, refl, sym, ap, subst, false, [], _⊎_, inl, inr, ⊎-elim, by-cases, some, Option·none-ne-some, ℕ, _≤_, _<_, ℕ-discrete, arith, le-ltb, Unseen, Open, Which, Named, Strong}
 use Rattle.rules.proofs.Basis.{Call, get, attach-input, detach, isSweep, Passable}
 use Rattle.rules.specs.Claims.{Living, ViewInOrder, GetsWhatIsPresent}
 use Rattle.rules.specs.Rules.{Connection, unused, output, input, View, withConnection, owner, inputFrom, stateOn, seenAs, firstSeen, VisibleTime, StrongBound, Item, IsPresent, FreeConnection, Outcome, done, Lowest, rule}
-use Rattle.rules.specs.Rules.{NoneOf, at, Does}
+use Rattle.rules.specs.Rules.{NoneOf, at, Does, TakesUnseen}
 use Rattle.rules.specs.Runs.{Further, CouldBeGot, Run}
 use Rattle.rules.proofs.Bounds.{at-least-calls}
 use Rattle.rules.proofs.Connections.{Waits}
-use Rattle.rules.proofs.Laws.{_and_, at-other, not-none, Found, some-one, at-same, search-below}
+use Rattle.rules.proofs.Laws.{at-other, not-none, not-false, not-late, Found, some-one, at-same, search-below}
 use Rattle.rules.proofs.One.{accepted}
 use Rattle.rules.proofs.Order.{does-in-order}
 use Rattle.rules.proofs.Ways.{Waiting, visible-time, owned-fits, waiting, AtLeast, takes-fits}
@@ -44,6 +44,9 @@ record Led (start v : View) : Type 0 where
 abbrev Ready : View → Call → Outcome → Type 0
 Ready v call out = Passable call × NoneOf (rule v call .refusals) × rule v call .Accepts out
 
+-- what shows that a refusal is not the case, beside what is known: no word here goes by a place in the row
+ruleset not-so = (not-none, not-false, not-late)
+
 led-on : {start v : View} → Led start v → (call : Call) → isSweep call ≡ false → (out : Outcome) → out .code ≡ 0 → Ready v call out → Led start (out .view)
 led-on {start} {v} led call quiet out ok (fits, clear, accepts) = record {
   on = λ later run. led .on later (Further.next call out fits quiet (inr (clear, accepts)) ok run);
@@ -62,10 +65,12 @@ get-ready v o k timestamp unseen w =
     let small = o .threads (w .thread) time lives .0 in
     let early = o .items (w .channel) timestamp (w .ticket) (w .there) .1 in
     let near = w .inside in
-    let from = ap inputFrom (w .is) in (
+    let from = ap inputFrom (w .is) in
+    let own = ap owner (w .is) in
+    let takes : TakesUnseen v k (Named timestamp) timestamp = (unseen, refl) in (
       (omega arith, (omega arith, omega arith)),
-      (not-none lives) and (λ x. x (ap owner (w .is))) and (not-none from) and (λ x. omega (arith, x)) and (λ x. x timestamp (unseen, refl)) and tt,
-      (w .channel, timestamp, w .ticket, from, (unseen, refl), w .there, refl),
+      search not-so,
+      (w .channel, timestamp, w .ticket, from, takes, w .there, refl),
     )
 
 get-now : {start v : View} → Led start v → (item : Item) → IsPresent v item → (k : ℕ) → stateOn (v .connection k) (item .timestamp) ≡ Unseen
@@ -99,7 +104,7 @@ attach-then-get {start} {v} led item here thread (time, lives) number visible in
     let near = led .order .channels c exists in
     let ready : Ready v (attach-input thread c) (done number visible (withConnection v number new) []) = (
       (omega arith, omega arith),
-      (not-none lives) and (λ x. true≢false (sym exists ∙ x)) and (λ x. x number inside (low .0)) and tt,
+      search not-so,
       (number, visible, low, is, refl),
     ) in
     let row : withConnection v number new .connection number ≡ new = at-same (v .connection) number new in
@@ -152,7 +157,7 @@ module _ (start : View) (item : Item) (thread time : ℕ) (early : time ≤ item
           let (was, lives) = owned-fits v spare its (v .connection spare) (led .order .connections spare) own .1 in
           let small = led .order .threads its was lives .0 in
           let w : View = withConnection v spare unused in
-          let ready : Ready v (detach its spare) (done 0 0 w []) = ((omega arith, omega arith), (not-none lives) and (λ x. x own) and tt, refl) in
+          let ready : Ready v (detach its spare) (done 0 0 w []) = ((omega arith, omega arith), search not-so, refl) in
           let led′ = led-on led (detach its spare) refl (done 0 0 w []) refl ready in
           ⊎-elim (λ (number, near, free). attaches w led′ here living still number near free) (λ none-free. absurd (none-free spare inside (at-same (v .connection) spare unused)))
           (search-below (FreeConnection w) (λ k. is-unused (w .connection k)) 32)

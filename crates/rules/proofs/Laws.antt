@@ -1,5 +1,5 @@
 -- Reading what was changed at one number, deciding, and searching. Assumes nothing.
-use Rattle.rules.proofs.Basis.{_≡_, _∙_, refl, sym, ap, subst, Bool, true, false, cond, _⊎_, inl, inr, ⊎-elim, by-cases, Option, none, some, Option·none-ne-some, Option-discrete, ℕ, zero, suc, _-_, _≤_, _<_, decLt}
+use Rattle.rules.proofs.Basis.{_≡_, _∙_, refl, sym, ap, subst, Bool, true, false, true≢false, cond, _⊎_, inl, inr, ⊎-elim, by-cases, Option, none, some, Option·none-ne-some, Option-discrete, ℕ, zero, suc, _-_, _≤_, _<_, decLt}
 use Rattle.rules.proofs.Basis.{ℕ-discrete, map-dec, arith, le-refl, eqb, ltb, eqb-true, eqb-false, eq-eqb, ne-eqb, ltb-true, ltb-false, State, Absent, Unseen, Open, Consumed, stateNumber}
 use Rattle.rules.specs.Rules.{never, View, at, withItem, Smallest, Lowest}
 
@@ -44,10 +44,11 @@ not-none {A} {o} {a} s t = Option·none-ne-some a (sym t ∙ s)
 pub not-below : {a b : ℕ} → (a < b → ⊥) → b ≤ a
 not-below over = omega arith
 
--- pairs that nest to the right, as the refusals of a row do
-infixr 15 _and_
-pub _and_ : {A B : Type 0} → A → B → A × B
-a and b = (a, b)
+pub not-late : {a b : ℕ} → a < b → b ≤ a → ⊥
+not-late early late = omega arith
+
+pub not-false : {b : Bool} → b ≡ true → b ≡ false → ⊥
+not-false is lacks = true≢false (sym is ∙ lacks)
 
 -- ---- deciding
 

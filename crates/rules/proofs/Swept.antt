@@ -2,7 +2,7 @@
 use Rattle.rules.proofs.Basis.{_≡_, _∙_, refl, sym, ap, subst, List, _++_, inl, inr, ⊎-elim, _↔_, none, some, Option·none-ne-some, ℕ, _≤_, _<_, arith, lt-of-not-le, length, drop, ltb-true, lt-ltb, le-ltb, Bound, Weak}
 use Rattle.rules.proofs.Basis.{Strong, sweep}
 use Rattle.rules.specs.Claims.{Handed, HandsBack, SweptExactlyTheUnreachable, WeaklySweptOnlyTheUnreachable, SweepsSpareTheRest}
-use Rattle.rules.specs.Rules.{never, below, Connection, unused, output, input, View, stateOn, consumedBelow, StrongBound, BoundOf, Item, IsPresent, _∈_, Listed, tickets, Outcome, done, left, swept, Does}
+use Rattle.rules.specs.Rules.{never, below, Connection, unused, output, input, View, stateOn, consumedBelow, StrongBound, BoundOf, Item, IsPresent, _∈_, Listed, tickets, slice-short, Outcome, done, left, swept, Not, Does}
 use Rattle.rules.specs.Runs.{CouldBeGot}
 use Rattle.rules.proofs.Accounts.{items-are-listed}
 use Rattle.rules.proofs.Bounds.{bound-is-there}
@@ -34,10 +34,8 @@ module _ (v : View) (bound : Bound) (time : ℕ) (is : BoundOf v bound time) (it
   -- what a sweep may do is one thing, so it is enough that it may do this
   handed : (slice : List ℕ) → length items ≤ length slice → (o : Outcome) → Does v (sweep bound slice) o → Handed v bound items slice o
   handed slice enough o does =
-      let accepted : Does v (sweep bound slice) (done (length items) time (swept v time) (tickets items ++ drop (length items) slice)) = inr (
-        (λ (other, listed, is′, those′, short). omega (arith, ap length (below-one v bound other time listed items is′ is those′ those .1)), tt),
-        (time, items, is, those, refl),
-      ) in
+      let long : Not (slice-short v (BoundOf v bound) slice) = λ (other, listed, is′, those′, short). omega (arith, ap length (below-one v bound other time listed items is′ is those′ those .1)) in
+      let accepted : Does v (sweep bound slice) (done (length items) time (swept v time) (tickets items ++ drop (length items) slice)) = inr (search, (time, items, is, those, refl)) in
       subst (Handed v bound items slice) (does-one-thing v (sweep bound slice) _ o accepted does) (record { code = refl; value = refl; time = is; slice = refl; stays = stays-present })
 
   too-short : (slice : List ℕ) → length slice < length items → (o : Outcome) → Does v (sweep bound slice) o
