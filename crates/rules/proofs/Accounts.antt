@@ -3,7 +3,7 @@ use mathlib.Core.List.{sum, zipWith}
 use Rattle.calls.specs.Questions.{Request}
 use Rattle.rules.proofs.Basis.{_≡_, sym, ap, subst, Bool, not, List, [], inl, inr, by-cases, ℕ, _+_, _≤_, ℕ-discrete, arith, length, Deed, Bound, Call, by, sweep, isPut, isSweep}
 use Rattle.rules.specs.Claims.{ItemsAreListed, AccountsBalance, FreshAccountsBalance}
-use Rattle.rules.specs.Rules.{everything, below, View, Item, Listed, Outcome, rule, Does}
+use Rattle.rules.specs.Rules.{itemPlaces, everything, below, View, Item, Listed, Outcome, rule, Does}
 use Rattle.rules.specs.Runs.{fresh, Run, stop, next, Reply, replyOf, Gives, ifAccepted, acceptedPuts, ticketsBack}
 use Rattle.rules.proofs.Clear.{Clear, cleared}
 use Rattle.rules.proofs.Made.{Made, quietly, puts, made}
@@ -18,7 +18,7 @@ pub record Tally (call : Call) (items : List Item) (out : Outcome) : Type 0 wher
   pub more : List Item
   pub those : Listed (out .view) everything more
   pub balance : ifAccepted (replyOf out) (isPut call) 1 + length items ≡ length more + ifAccepted (replyOf out) (isSweep call) (out .value)
-  pub fits : length items ≤ 64 → length more ≤ 64
+  pub fits : length items ≤ itemPlaces → length more ≤ itemPlaces
 
 module _ (v : View) (items : List Item) (those : Listed v everything items) where
   same-listed : (w : View) → ((channel timestamp : ℕ) → w .item channel timestamp ≡ v .item channel timestamp) → Listed w everything items
@@ -33,7 +33,7 @@ module _ (v : View) (items : List Item) (those : Listed v everything items) wher
         more = more;
         those = now;
         balance = omega (arith, one-more);
-        fits = λ q. by-cases (ℕ-discrete (length items) 64) (λ full. absurd (clear 8 (items, those, full))) (λ room. omega (arith, one-more));
+        fits = λ q. by-cases (ℕ-discrete (length items) itemPlaces) (λ full. absurd (clear 8 (items, those, full))) (λ room. omega (arith, one-more));
       }
 
   swept-tally : (bound : Bound) (slice : List ℕ) (out : Outcome) → rule v (sweep bound slice) .Accepts out → Tally (sweep bound slice) items out
@@ -56,7 +56,7 @@ module _ (v : View) (items : List Item) (those : Listed v everything items) wher
   does-tally (by thread deed) out (inr (free, accepts)) = deed-tally thread deed out (made v thread deed out accepts) (cleared v (by thread deed) free)
   does-tally (sweep bound slice) out (inr (clear, accepts)) = swept-tally bound slice out accepts
 
-over-calls : {v w : View} → Run v w → (items : List Item) → Listed v everything items → length items ≤ 64 → (more : List Item) × Listed w everything more × (length more ≤ 64)
+over-calls : {v w : View} → Run v w → (items : List Item) → Listed v everything items → length items ≤ itemPlaces → (more : List Item) × Listed w everything more × (length more ≤ itemPlaces)
 over-calls stop items those fits = (items, those, fits)
 over-calls (next {v} {w} call out pass does rest) items those fits =
     let t = does-tally v items those call out does in

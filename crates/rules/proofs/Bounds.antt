@@ -1,7 +1,7 @@
 -- The two bounds are there and never fall: what a call brings about was there before, or is not below a visible time. Assumes nothing.
 use Rattle.rules.proofs.Basis.{_≡_, refl, subst, _⊎_, inl, inr, ⊎-elim, none, some, Option·some-injective, Option·none-ne-some, ℕ, _≤_, _<_, ℕ-discrete, arith, le-refl, State, Unseen, Open, Consumed, Bound, Weak, Strong}
 use Rattle.rules.specs.Claims.{BoundsAreThere, BoundsNeverFall, WeakBelowStrong, Living, ViewInOrder}
-use Rattle.rules.specs.Rules.{Connection, unused, output, input, View, KeepTime, stateOn, unseenIf, Smallest, IsTime, BoundOf}
+use Rattle.rules.specs.Rules.{connectionPlaces, threadPlaces, Connection, unused, output, input, View, KeepTime, stateOn, unseenIf, Smallest, IsTime, BoundOf}
 use Rattle.rules.specs.Runs.{Run}
 use Rattle.rules.proofs.Connections.{opens, Turn, Turned, ConnectionFitsIn, Allowed, Waits, alike, freed, rests, consumes, absent-done, writes, consumed-done, reads, comes, moves}
 use Rattle.rules.proofs.Laws.{smallest, either, exists-below, state-is, some-is, at-elim, below-elim}
@@ -72,19 +72,19 @@ pending-is Weak time (output t c) = no (λ q. q)
 pending-is Weak time (input t c m s) = ℕ-discrete time m
 pending-is Strong time c = either (state-is Unseen (stateOn c time)) (state-is Open (stateOn c time))
 
-keeps-inside : (v : View) (k mark : ℕ) (c : Connection) → ConnectionFitsIn v k c → KeepTime c mark → (k < 32) × ((t : ℕ) × Living (v .thread) t)
+keeps-inside : (v : View) (k mark : ℕ) (c : Connection) → ConnectionFitsIn v k c → KeepTime c mark → (k < connectionPlaces) × ((t : ℕ) × Living (v .thread) t)
 keeps-inside v k mark unused f q = absurd q
 keeps-inside v k mark (output t c) f q = absurd q
 keeps-inside v k mark (input t c m s) f q = (f .0, (t, f .1))
 
 module _ (v : View) (o : ViewInOrder v) where
-  pub pending-inside : (bound : Bound) (k time : ℕ) → Pending bound (v .connection k) time → (k < 32) × ((t : ℕ) × Living (v .thread) t)
+  pub pending-inside : (bound : Bound) (k time : ℕ) → Pending bound (v .connection k) time → (k < connectionPlaces) × ((t : ℕ) × Living (v .thread) t)
   pending-inside Weak k time q = keeps-inside v k time (v .connection k) (o .connections k) q
   pending-inside Strong k time q = let w = waiting v o k time q in (w .inside, (w .thread, w .living))
 
   least : (bound : Bound) → (time : ℕ) × Smallest (λ time. IsTime v time ⊎ ((k : ℕ) × Pending bound (v .connection k) time)) time
-  least bound = smallest _ (λ time. either (exists-below _ (λ t. some-is time (v .thread t)) 16 (λ t q. o .threads t time q .0))
-      (exists-below _ (λ k. pending-is bound time (v .connection k)) 32 (λ k q. pending-inside bound k time q .0)))
+  least bound = smallest _ (λ time. either (exists-below _ (λ t. some-is time (v .thread t)) threadPlaces (λ t q. o .threads t time q .0))
+      (exists-below _ (λ k. pending-is bound time (v .connection k)) connectionPlaces (λ k q. pending-inside bound k time q .0)))
 
   pub bound-is-there : (bound : Bound) → (time : ℕ) × BoundOf v bound time
   bound-is-there Weak = least Weak

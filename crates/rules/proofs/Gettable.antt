@@ -2,7 +2,7 @@
 use Rattle.rules.proofs.Basis.{_≡_, _∙_, refl, sym, ap, subst, false, [], _⊎_, inl, inr, ⊎-elim, by-cases, some, Option·none-ne-some, ℕ, _≤_, _<_, ℕ-discrete, arith, le-ltb, Unseen, Open, Which, Named, Strong}
 use Rattle.rules.proofs.Basis.{Call, get, attach-input, detach, isSweep, Passable}
 use Rattle.rules.specs.Claims.{Living, ViewInOrder, GetsWhatIsPresent}
-use Rattle.rules.specs.Rules.{Connection, unused, output, input, View, withConnection, owner, inputFrom, stateOn, seenAs, firstSeen, VisibleTime, StrongBound, Item, IsPresent, FreeConnection, Outcome, done, Lowest, rule}
+use Rattle.rules.specs.Rules.{connectionPlaces, Connection, unused, output, input, View, withConnection, owner, inputFrom, stateOn, seenAs, firstSeen, VisibleTime, StrongBound, Item, IsPresent, FreeConnection, Outcome, done, Lowest, rule}
 use Rattle.rules.specs.Rules.{NoneOf, at, Does, TakesUnseen}
 use Rattle.rules.specs.Runs.{Further, CouldBeGot, Run}
 use Rattle.rules.proofs.Bounds.{at-least-calls}
@@ -95,7 +95,7 @@ get-now {start} {v} led item here k unseen w same =
 -- ---- with a free place for a connection, the thread attaches to the item's channel and gets the item by its name
 
 attach-then-get : {start v : View} → Led start v → (item : Item) → IsPresent v item → (thread : ℕ) → Living (v .thread) thread
-    → (number visible : ℕ) → number < 32 → Lowest (FreeConnection v) number → VisibleTime v thread visible → visible ≤ item .timestamp → CouldBeGot start item
+    → (number visible : ℕ) → number < connectionPlaces → Lowest (FreeConnection v) number → VisibleTime v thread visible → visible ≤ item .timestamp → CouldBeGot start item
 attach-then-get {start} {v} led item here thread (time, lives) number visible inside low is early =
     let c : ℕ = item .channel in
     let new : Connection = input thread c visible (firstSeen (v .item c) visible) in
@@ -130,26 +130,26 @@ is-owned (output t c) used = (t, refl)
 is-owned (input t c m s) used = (t, refl)
 
 -- a connection without which it shows the same time
-spare-place : (v : View) (thread time : ℕ) → Shows v thread time → (spare : ℕ) × (spare < 32) × Shows (withConnection v spare unused) thread time
+spare-place : (v : View) (thread time : ℕ) → Shows v thread time → (spare : ℕ) × (spare < connectionPlaces) × Shows (withConnection v spare unused) thread time
 spare-place v thread time (inl is) = (0, omega arith, inl is)
 spare-place v thread time (inr (k, own, opened)) = by-cases (ℕ-discrete k 0) (λ first. without 1 (omega arith) (λ e. omega arith)) (λ other. without 0 (omega arith) other)
   where
-    without : (spare : ℕ) → spare < 32 → (k ≡ spare → ⊥) → (n : ℕ) × (n < 32) × Shows (withConnection v n unused) thread time
+    without : (spare : ℕ) → spare < connectionPlaces → (k ≡ spare → ⊥) → (n : ℕ) × (n < connectionPlaces) × Shows (withConnection v n unused) thread time
     without spare inside other =
         let same : withConnection v spare unused .connection k ≡ v .connection k = at-other (v .connection) spare unused k other in
         (spare, inside, inr (k, ap owner same ∙ own, ap (λ (c : Connection). stateOn c time) same ∙ opened))
 
 -- it attaches where a place is free, and else after the detach of a spare connection
 module _ (start : View) (item : Item) (thread time : ℕ) (early : time ≤ item .timestamp) where
-  attaches : (v : View) → Led start v → IsPresent v item → Living (v .thread) thread → Shows v thread time → (number : ℕ) → number < 32 → Lowest (FreeConnection v) number → CouldBeGot start item
+  attaches : (v : View) → Led start v → IsPresent v item → Living (v .thread) thread → Shows v thread time → (number : ℕ) → number < connectionPlaces → Lowest (FreeConnection v) number → CouldBeGot start item
   attaches v led here living shows number inside free =
       let (visible, is) = visible-time v (led .order) thread in
       attach-then-get led item here thread living number visible inside free is (omega (arith, is .at-most-each time shows))
 
   low-gets : (v : View) → Led start v → IsPresent v item → Living (v .thread) thread → Shows v thread time → CouldBeGot start item
-  low-gets v led here living shows = go (search-below (FreeConnection v) (λ k. is-unused (v .connection k)) 32)
+  low-gets v led here living shows = go (search-below (FreeConnection v) (λ k. is-unused (v .connection k)) connectionPlaces)
     where
-      go : Found (FreeConnection v) 32 → CouldBeGot start item
+      go : Found (FreeConnection v) connectionPlaces → CouldBeGot start item
       go (inl (number, inside, free)) = attaches v led here living shows number inside free
       go (inr full) =
           let (spare, inside, still) = spare-place v thread time shows in
@@ -160,7 +160,7 @@ module _ (start : View) (item : Item) (thread time : ℕ) (early : time ≤ item
           let ready : Ready v (detach its spare) (done 0 0 w []) = ((omega arith, omega arith), search not-so, refl) in
           let led′ = led-on led (detach its spare) refl (done 0 0 w []) refl ready in
           ⊎-elim (λ (number, near, free). attaches w led′ here living still number near free) (λ none-free. absurd (none-free spare inside (at-same (v .connection) spare unused)))
-          (search-below (FreeConnection w) (λ k. is-unused (w .connection k)) 32)
+          (search-below (FreeConnection w) (λ k. is-unused (w .connection k)) connectionPlaces)
 
 -- ---- an UNSEEN item is got, and so its owner's visible time is low
 

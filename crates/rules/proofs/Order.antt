@@ -1,7 +1,7 @@
 -- Every view that calls reach is in order: a start is, and each of the six ways and leaving keep it so. Assumes nothing.
 use Rattle.rules.proofs.Basis.{_≡_, _∙_, refl, sym, ap, subst, true, none, some, Option·none-ne-some, ℕ, _≤_, _<_, arith, Call, Ticket, Passable}
 use Rattle.rules.specs.Claims.{ViewInOrder, EveryViewInOrder}
-use Rattle.rules.specs.Rules.{never, Pairs, View, at, left, Outcome, Does}
+use Rattle.rules.specs.Rules.{never, channelPlaces, threadPlaces, Pairs, View, at, left, Outcome, Does}
 use Rattle.rules.specs.Runs.{Run, stop, next}
 use Rattle.rules.proofs.Connections.{fits-on, ConnectionFitsIn, fits-freed, fits-noticing, fits-raised}
 use Rattle.rules.proofs.Laws.{at-elim, item-elim}
@@ -14,12 +14,12 @@ kind-in-order v o w (makes number inside) =
     let more : (c : ℕ) → v .channel c ≡ true → at (v .channel) number true c ≡ true = λ c h. at-elim (λ b. b ≡ true) (v .channel) number true c (λ e. refl) (λ ne. h) in
     record {
       threads = o .threads;
-      channels = λ c. at-elim (λ b. b ≡ true → c < 8) (v .channel) number true c (λ e h. omega arith) (λ ne. o .channels c);
+      channels = λ c. at-elim (λ b. b ≡ true → c < channelPlaces) (v .channel) number true c (λ e h. omega arith) (λ ne. o .channels c);
       connections = λ k. fits-on v k (v .thread) (at (v .channel) number true) (v .connection k) (λ t own l. l) more (o .connections k);
       items = λ c t n h. (let (there, early, carried) = o .items c t n h in (more c there, early, carried));
     }
 kind-in-order v o w (sets number time inside top may) = record {
-  threads = λ t x. at-elim (λ s. s ≡ some x → (t < 16) × (x ≤ never)) (v .thread) number (some time) t
+  threads = λ t x. at-elim (λ s. s ≡ some x → (t < threadPlaces) × (x ≤ never)) (v .thread) number (some time) t
       (λ e h. (let q : time ≡ x = cc in (omega arith, omega arith))) (λ ne. o .threads t x);
   channels = o .channels;
   connections = λ k. fits-on v k (at (v .thread) number (some time)) (v .channel) (v .connection k)
@@ -33,7 +33,7 @@ kind-in-order v o w (changes number new fits turned) = record {
   items = o .items;
 }
 kind-in-order v o w (ends thread) = record {
-  threads = λ t x. at-elim (λ s. s ≡ some x → (t < 16) × (x ≤ never)) (v .thread) thread none t (λ e h. absurd (Option·none-ne-some x h)) (λ ne. o .threads t x);
+  threads = λ t x. at-elim (λ s. s ≡ some x → (t < threadPlaces) × (x ≤ never)) (v .thread) thread none t (λ e h. absurd (Option·none-ne-some x h)) (λ ne. o .threads t x);
   channels = o .channels;
   connections = λ k. fits-freed v k thread (v .connection k) (o .connections k);
   items = o .items;

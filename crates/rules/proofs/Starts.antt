@@ -2,13 +2,13 @@
 -- both, here. Assumes nothing.
 use Rattle.rules.proofs.Basis.{_≡_, sym, true≢false, List, [], none, some, Option·none-ne-some, _≤_, _<_, arith, length}
 use Rattle.rules.specs.Claims.{ViewInOrder}
-use Rattle.rules.specs.Rules.{never, everything, View, freshView, Item, Listed}
+use Rattle.rules.specs.Rules.{never, itemPlaces, threadPlaces, everything, View, freshView, Item, Listed}
 use Rattle.rules.specs.Runs.{Start, fresh}
 use Rattle.rules.proofs.Laws.{at-elim}
 
 fresh-in-order : ViewInOrder freshView
 fresh-in-order = record {
-  threads = λ t x. at-elim (λ s. s ≡ some x → (t < 16) × (x ≤ never)) (λ _. none) 0 (some 0) t
+  threads = λ t x. at-elim (λ s. s ≡ some x → (t < threadPlaces) × (x ≤ never)) (λ _. none) 0 (some 0) t
       (λ e h. (let q : 0 ≡ x = cc in (omega arith, omega arith))) (λ ne h. absurd (Option·none-ne-some x h));
   channels = λ c h. absurd (true≢false (sym h));
   connections = λ k. tt;
@@ -21,5 +21,5 @@ fresh-listed = record { in-line = tt; exactly = λ item. (λ q. absurd q, λ (he
 pub starts-in-order : {v : View} → Start v → ViewInOrder v
 starts-in-order fresh = fresh-in-order
 
-pub starts-listed : {v : View} → Start v → (items : List Item) × Listed v everything items × (length items ≤ 64)
+pub starts-listed : {v : View} → Start v → (items : List Item) × Listed v everything items × (length items ≤ itemPlaces)
 starts-listed fresh = ([], fresh-listed, omega arith)

@@ -4,7 +4,7 @@ use Rattle.rules.proofs.Basis.{ℕ-discrete, map-dec, arith, length, Un
 use Rattle.rules.proofs.Basis.{Strong, Call, by, sweep, sliceOf}
 use Rattle.calls.specs.Questions.{Question, visible-time, weak-bound, strong-bound, state-of, items-present}
 use Rattle.rules.specs.Claims.{EveryCallAnswered, EveryQuestionAnswered, ViewInOrder}
-use Rattle.rules.specs.Rules.{never, everything, View, owner, outputTo, inputFrom, stateOn, VisibleTime, Item, Listed, Refusal, NamesNever, FreeThread, FreeChannel, FreeConnection, TakesUnseen, slice-short, Outcome}
+use Rattle.rules.specs.Rules.{never, channelPlaces, connectionPlaces, itemPlaces, threadPlaces, everything, View, owner, outputTo, inputFrom, stateOn, VisibleTime, Item, Listed, Refusal, NamesNever, FreeThread, FreeChannel, FreeConnection, TakesUnseen, slice-short, Outcome}
 use Rattle.rules.specs.Rules.{Lowest, rule, Refuses, NoneOf, Does, BoundOf, askedOf, Says}
 use Rattle.rules.proofs.Clear.{Clear, cleared}
 use Rattle.rules.proofs.Accounts.{items-are-listed}
@@ -57,8 +57,8 @@ module _ (v : View) (o : ViewInOrder v) (items : List Item) (those : Listed v ev
       (λ gone. no (λ (c, t, into, here). not-none here (ap (λ (x : ℕ). v .item x timestamp) (some-one into e) ∙ gone)))
       (λ ticket here. yes (channel, ticket, e, here)))
 
-  full-is : Dec ((all : List Item) × Listed v everything all × (length all ≡ 64))
-  full-is = map-dec (λ full. (items, those, full)) (λ (all, is, full). ap length (listed-one those is) ∙ full) (ℕ-discrete (length items) 64)
+  full-is : Dec ((all : List Item) × Listed v everything all × (length all ≡ itemPlaces))
+  full-is = map-dec (λ full. (items, those, full)) (λ (all, is, full). ap length (listed-one those is) ∙ full) (ℕ-discrete (length items) itemPlaces)
 
   abbrev Unseens : ℕ → ℕ → Type 0
   Unseens connection timestamp = stateOn (v .connection connection) timestamp ≡ Unseen
@@ -129,17 +129,17 @@ module _ (v : View) (o : ViewInOrder v) (items : List Item) (those : Listed v ev
 
   accepts : (call : Call) → Clear v call → (out : Outcome) × rule v call .Accepts out
   accepts (by thread Channel) clear =
-      let (number, low) = lowest-free 8 (FreeChannel v) (λ n. Bool-discrete (v .channel n) false) (clear 9) in
+      let (number, low) = lowest-free channelPlaces (FreeChannel v) (λ n. Bool-discrete (v .channel n) false) (clear 9) in
       (_, (number, low, refl))
   accepts (by thread (NewThread time)) clear =
-      let (number, low) = lowest-free 16 (FreeThread v) (λ n. is-none (v .thread n)) (clear 9) in
+      let (number, low) = lowest-free threadPlaces (FreeThread v) (λ n. is-none (v .thread n)) (clear 9) in
       (_, (number, low, refl))
   accepts (by thread (AttachInput channel)) clear =
-      let (number, low) = lowest-free 32 (FreeConnection v) (λ n. is-unused (v .connection n)) (clear 9) in
+      let (number, low) = lowest-free connectionPlaces (FreeConnection v) (λ n. is-unused (v .connection n)) (clear 9) in
       let (visible, is) = Ways.visible-time v o thread in
       (_, (number, visible, low, is, refl))
   accepts (by thread (AttachOutput channel)) clear =
-      let (number, low) = lowest-free 32 (FreeConnection v) (λ n. is-unused (v .connection n)) (clear 9) in
+      let (number, low) = lowest-free connectionPlaces (FreeConnection v) (λ n. is-unused (v .connection n)) (clear 9) in
       (_, (number, low, refl))
   accepts (by thread (Detach connection)) clear = (_, refl)
   accepts (by thread End) clear = (_, refl)

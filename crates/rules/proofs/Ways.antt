@@ -4,7 +4,7 @@ use Rattle.rules.proofs.Basis.{_≡_, refl, sym, subst, Bool, true, fal
 use Rattle.rules.proofs.Basis.{lt-of-not-le, ltb-true, State, Unseen, Open, Consumed, Which, Earliest, Latest, Named, Deed, Channel, NewThread, AttachInput, AttachOutput, Detach, End, Set, Put, Get, Consume, ConsumeUntil}
 use Rattle.rules.proofs.Basis.{Bound, Weak, Strong, Call, by, sweep, Ticket, Passable, stateNumber}
 use Rattle.rules.specs.Claims.{Living, ViewInOrder}
-use Rattle.rules.specs.Rules.{never, Pairs, below, Connection, unused, output, input, View, withThread, withChannel, withConnection, owner, outputTo, KeepTime, stateOn, IsTime, VisibleTime, BoundOf, Takes, Outcome, Lowest}
+use Rattle.rules.specs.Rules.{never, channelPlaces, connectionPlaces, threadPlaces, Pairs, below, Connection, unused, output, input, View, withThread, withChannel, withConnection, owner, outputTo, KeepTime, stateOn, IsTime, VisibleTime, BoundOf, Takes, Outcome, Lowest}
 use Rattle.rules.specs.Rules.{withItem, ended, left, raised, deedRow, rule, Does, seenAs}
 use Rattle.rules.proofs.Clear.{Clear, cleared}
 use Rattle.rules.proofs.Connections.{Turned, Allowed, Waits, ConnectionFitsIn, Turn, absent-done, reads, turned-freed, writes, turned-seen-as, turned-noticing, turned-raised, sees-first, seen-there, fits-seen-as}
@@ -32,7 +32,7 @@ untaken v connection channel timestamp clear into = option-cases (v .item channe
 -- ---- a connection of a view in order
 
 -- an owned one is inside its table, and its owner lives
-pub owned-fits : (v : View) (k thread : ℕ) (c : Connection) → ConnectionFitsIn v k c → owner c ≡ some thread → (k < 32) × Living (v .thread) thread
+pub owned-fits : (v : View) (k thread : ℕ) (c : Connection) → ConnectionFitsIn v k c → owner c ≡ some thread → (k < connectionPlaces) × Living (v .thread) thread
 owned-fits v k thread unused f is = absurd (Option·none-ne-some thread is)
 owned-fits v k thread (output t c) f is = (f .0, subst (Living (v .thread)) (Option·some-injective t thread is) (f .1))
 owned-fits v k thread (input t c m s) f is = (f .0, subst (Living (v .thread)) (Option·some-injective t thread is) (f .1))
@@ -44,7 +44,7 @@ written-exists v k channel (input t c m s) f is = absurd (Option·none-ne-some c
 
 -- one on which a timestamp waits
 pub record Waiting (v : View) (connection timestamp : ℕ) : Type 0 where
-  pub inside : connection < 32
+  pub inside : connection < connectionPlaces
   pub thread : ℕ
   pub living : Living (v .thread) thread
   pub channel : ℕ
@@ -71,7 +71,7 @@ waiting v o k timestamp w = go (v .connection k) refl (o .connections k) w
 pub visible-time : (v : View) → ViewInOrder v → (thread : ℕ) → (visible : ℕ) × VisibleTime v thread visible
 visible-time v o thread = smallest _ (λ time. either (some-is time (v .thread thread)) (Dec·of-iff (λ (k, p). (k, p .0, p .1), λ (k, p, q). (k, (p, q)))
     (exists-below (λ k. (owner (v .connection k) ≡ some thread) × (stateOn (v .connection k) time ≡ Open))
-    (λ k. Dec·and (some-is thread (owner (v .connection k))) (state-is Open (stateOn (v .connection k) time))) 32
+    (λ k. Dec·and (some-is thread (owner (v .connection k))) (state-is Open (stateOn (v .connection k) time))) connectionPlaces
     (λ k p. owned-fits v k thread (v .connection k) (o .connections k) (p .0) .0))))
 
 -- where 6 does not refuse, a visible time allows the time
@@ -123,8 +123,8 @@ takes-fits which Fits timestamp = elim which [ Earliest ↦ λ takes. takes .0 |
 -- ---- the six ways
 
 pub data Kind (v : View) : View → Type 0 where
-  makes : (number : ℕ) → number < 8 → Kind v (withChannel v number)
-  sets : (number time : ℕ) → number < 16 → time ≤ never → Allowed v time → Kind v (withThread v number (some time))
+  makes : (number : ℕ) → number < channelPlaces → Kind v (withChannel v number)
+  sets : (number time : ℕ) → number < threadPlaces → time ≤ never → Allowed v time → Kind v (withThread v number (some time))
   changes : (number : ℕ) (new : Connection) → ConnectionFitsIn v number new → Turned v (v .connection number) new → Kind v (withConnection v number new)
   ends : (thread : ℕ) → Kind v (ended v thread)
   stocks : (channel timestamp ticket : ℕ) → v .channel channel ≡ true → timestamp < never → Ticket ticket → Allowed v timestamp → v .item channel timestamp ≡ none
@@ -154,14 +154,14 @@ module _ (v : View) (o : ViewInOrder v) where
       changes number _ (fits-seen-as v number state timestamp there (v .connection number) waits (o .connections number)) (turned-seen-as v state timestamp (v .connection number) turn)
 
   pub deed-kind : (thread : ℕ) (deed : Deed) → Passable (by thread deed) → Clear v (by thread deed) → (out : Outcome) → deedRow v thread deed .Accepts out → Goal out
-  deed-kind thread Channel fits clear out (number, low, e) = subst Goal (sym e) (makes number (free-inside 8 low (clear 9)))
+  deed-kind thread Channel fits clear out (number, low, e) = subst Goal (sym e) (makes number (free-inside channelPlaces low (clear 9)))
   deed-kind thread (NewThread time) fits clear out (number, low, e) =
-      subst Goal (sym e) (sets number time (free-inside 16 low (clear 9)) (omega (arith, fits .1)) (allowed v o thread time (clear 6)))
+      subst Goal (sym e) (sets number time (free-inside threadPlaces low (clear 9)) (omega (arith, fits .1)) (allowed v o thread time (clear 6)))
   deed-kind thread (AttachInput channel) fits clear out (number, visible, low, is, e) = subst Goal (sym e) (attach-kind number _ (low .0)
-      (free-inside 32 low (clear 9), lives v thread (clear 1), is-there (v .channel channel) (clear 2), is .at-most-never, sees-first (v .item channel) visible)
+      (free-inside connectionPlaces low (clear 9), lives v thread (clear 1), is-there (v .channel channel) (clear 2), is .at-most-never, sees-first (v .item channel) visible)
       (reads thread channel visible (thread, visible, is, le-refl visible)))
   deed-kind thread (AttachOutput channel) fits clear out (number, low, e) = subst Goal (sym e) (attach-kind number _ (low .0)
-      (free-inside 32 low (clear 9), lives v thread (clear 1), is-there (v .channel channel) (clear 2)) (writes thread channel))
+      (free-inside connectionPlaces low (clear 9), lives v thread (clear 1), is-there (v .channel channel) (clear 2)) (writes thread channel))
   deed-kind thread (Detach connection) fits clear out e = subst Goal (sym e) (changes connection unused tt (freed (v .connection connection)))
   deed-kind thread End fits clear out e = subst Goal (sym e) (ends thread)
   deed-kind thread (Set time) fits clear out e =

@@ -15,7 +15,7 @@ use Rattle.calls.specs.declared.Bound.the-variants.{Weak, Strong}
 use Rattle.calls.specs.Calls.{Call, sweep, detach, end, put, get, consume, isSweep, sliceOf, Ticket, Passable}
 use Rattle.calls.specs.Questions.{Question, items-present, Request}
 use Rattle.calls.specs.States.{stateNumber}
-use Rattle.rules.specs.Rules.{never, Pairs, everything, Connection, unused, output, input, View, freshView, owner, outputTo, inputFrom, KeepTime, stateOn, WeakBound, StrongBound, BoundOf, Item, IsPresent, _∈_, InLine, Listed, tickets, Outcome, left, Does, Says}
+use Rattle.rules.specs.Rules.{never, channelPlaces, connectionPlaces, itemPlaces, threadPlaces, Pairs, everything, Connection, unused, output, input, View, freshView, owner, outputTo, inputFrom, KeepTime, stateOn, WeakBound, StrongBound, BoundOf, Item, IsPresent, _∈_, InLine, Listed, tickets, Outcome, left, Does, Says}
 use Rattle.rules.specs.Runs.{Run, Start, Reachable, CouldBeGot, Reply, Gives, acceptedPuts, ticketsBack}
 
 -- ---- every call is answered, in one way
@@ -170,15 +170,15 @@ Living threads thread = (time : ℕ) × (threads thread ≡ some time)
 -- what is in order about the connection with this number; an input sees what `EveryInputSees` says
 abbrev pub ConnectionFits : (ℕ → Option ℕ) → (ℕ → Bool) → (ℕ → ℕ → Option ℕ) → ℕ → Connection → Type 0
 ConnectionFits threads channels items number unused = Unit {0}
-ConnectionFits threads channels items number (output thread channel) = (number < 32) × Living threads thread × (channels channel ≡ true)
+ConnectionFits threads channels items number (output thread channel) = (number < connectionPlaces) × Living threads thread × (channels channel ≡ true)
 ConnectionFits threads channels items number (input thread channel mark seen) =
-    (number < 32) × Living threads thread × (channels channel ≡ true) × (mark ≤ never) × Sees (items channel) mark seen
+    (number < connectionPlaces) × Living threads thread × (channels channel ≡ true) × (mark ≤ never) × Sees (items channel) mark seen
 
 -- "Threads 16 (0..15), channels 8 (0..7), connections 32 (0..31)": no number is past its table's end, no time past never; a connection's thread lives and
 -- its channel exists, and so does an item's; never is no timestamp; a ticket is a "64-bit unsigned number"
 pub record ViewInOrder (v : View) : Type 0 where
-  pub threads : (thread time : ℕ) → v .thread thread ≡ some time → (thread < 16) × (time ≤ never)
-  pub channels : (channel : ℕ) → v .channel channel ≡ true → channel < 8
+  pub threads : (thread time : ℕ) → v .thread thread ≡ some time → (thread < threadPlaces) × (time ≤ never)
+  pub channels : (channel : ℕ) → v .channel channel ≡ true → channel < channelPlaces
   pub connections : (connection : ℕ) → ConnectionFits (v .thread) (v .channel) (v .item) connection (v .connection connection)
   pub items : (channel timestamp ticket : ℕ) → v .item channel timestamp ≡ some ticket → (v .channel channel ≡ true) × (timestamp < never) × Ticket ticket
 
@@ -235,7 +235,7 @@ NoPairTwice =
 
 -- the items present are one list of at most 64: `items-are-listed`
 abbrev pub ItemsAreListed : Type 0
-ItemsAreListed = (v : View) → Reachable v → (items : List Item) × Listed v everything items × (length items ≤ 64)
+ItemsAreListed = (v : View) → Reachable v → (items : List Item) × Listed v everything items × (length items ≤ itemPlaces)
 
 -- the accounts from any start, whose own items count as puts: `accounts-balance`
 abbrev pub AccountsBalance : Type 0

@@ -1,6 +1,7 @@
 -- The rules: what can be observed of a desk, and what each call and each question of document 01 does. To be read with 01 or with the paper (000) in
 -- the other hand, and with nothing else: no word and no row of the desk's tables stands here. From the crate calls come the names of the calls and
--- questions, of the two bounds, of the four states (with their numbers) and of earliest, latest and named, and the slice that a sweep is lent.
+-- questions, of the two bounds, of the four states (with their numbers) and of earliest, latest and named, the slice that a sweep is lent, and 01's
+-- sizes and never.
 -- Assumes nothing.
 use mathlib.Core.Path.{_≡_}
 use mathlib.Core.Bool.{Bool, true, false, cond}
@@ -21,7 +22,7 @@ use Rattle.calls.specs.declared.Bound.the-variants.{Weak, Strong}
 use Rattle.calls.specs.Calls.{Call, by, sweep, sliceOf}
 use Rattle.calls.specs.Questions.{Question, visible-time, weak-bound, strong-bound, state-of, items-present}
 use Rattle.calls.specs.States.{stateNumber}
-pub use Rattle.calls.specs.Numbers.{never}
+pub use Rattle.calls.specs.Numbers.{never, channelPlaces, threadPlaces, connectionPlaces, itemPlaces}
 
 -- ---- what is there
 
@@ -314,7 +315,7 @@ taken v connection timestamp =
 
 -- 8: "64 items present"
 abbrev pub desk-full : View → Refusal
-desk-full v = refuse 8 ((items : List Item) × Listed v everything items × (length items ≡ 64))
+desk-full v = refuse 8 ((items : List Item) × Listed v everything items × (length items ≡ itemPlaces))
 
 -- 9: "the table has no free place". "Threads 16 (0..15), channels 8 (0..7), connections 32 (0..31), both directions together"
 abbrev pub table-full : ℕ → (ℕ → Type 0) → Refusal
@@ -388,17 +389,17 @@ row refusals Accepts = record { refusals = refusals; Accepts = Accepts }
 -- virtual time (rule V1 of 000)."
 abbrev pub deedRow : View → ℕ → Deed → Row
 deedRow v thread Channel =
-    row (table-full 8 (FreeChannel v) ∷ [])
+    row (table-full channelPlaces (FreeChannel v) ∷ [])
     (λ o. (number : ℕ) × Lowest (FreeChannel v) number × (o ≡ done number 0 (withChannel v number) []))
 deedRow v thread (NewThread time) =
-    row (too-early v thread time ∷ table-full 16 (FreeThread v) ∷ [])
+    row (too-early v thread time ∷ table-full threadPlaces (FreeThread v) ∷ [])
     (λ o. (number : ℕ) × Lowest (FreeThread v) number × (o ≡ done number 0 (withThread v number (some time)) []))
 deedRow v thread (AttachInput channel) =
-    row (no-channel v channel ∷ table-full 32 (FreeConnection v) ∷ [])
+    row (no-channel v channel ∷ table-full connectionPlaces (FreeConnection v) ∷ [])
     (λ o. (number visible : ℕ) × Lowest (FreeConnection v) number × VisibleTime v thread visible
     × (o ≡ done number visible (withConnection v number (input thread channel visible (firstSeen (v .item channel) visible))) []))
 deedRow v thread (AttachOutput channel) =
-    row (no-channel v channel ∷ table-full 32 (FreeConnection v) ∷ [])
+    row (no-channel v channel ∷ table-full connectionPlaces (FreeConnection v) ∷ [])
     (λ o. (number : ℕ) × Lowest (FreeConnection v) number × (o ≡ done number 0 (withConnection v number (output thread channel)) []))
 deedRow v thread (Detach connection) =
     row (not-its-own v thread connection ∷ [])
