@@ -4,7 +4,7 @@ use Rattle.calls.specs.Questions.{Request}
 use Rattle.rules.proofs.Basis.{_≡_, sym, ap, subst, Bool, not, List, [], inl, inr, by-cases, ℕ, _+_, _≤_, ℕ-discrete, arith, length, Deed, Bound, Call, by, sweep, isPut, isSweep}
 use Rattle.rules.specs.Claims.{ItemsAreListed, AccountsBalance, FreshAccountsBalance}
 use Rattle.rules.specs.Rules.{itemPlaces, everything, below, View, Item, Listed, Outcome, rule, Does}
-use Rattle.rules.specs.Runs.{fresh, Run, stop, next, Reply, replyOf, Gives, ifAccepted, acceptedPuts, ticketsBack}
+use Rattle.rules.specs.Runs.{Run, stop, next, Reply, replyOf, Gives, ifAccepted, acceptedPuts, ticketsBack}
 use Rattle.rules.proofs.Clear.{Clear, cleared}
 use Rattle.rules.proofs.Made.{Made, quietly, puts, made}
 use Rattle.rules.proofs.One.{refuses-coded, all-settled}
@@ -75,14 +75,14 @@ over-replies (Gives.questioned code value time says rest) items those =
     (more, now, omega (arith, balance))
 
 pub accounts-balance : AccountsBalance
-accounts-balance start v starts own those requests replies code value time gives (inl refused) = absurd refused
-accounts-balance start v starts own those requests replies code value time gives (inr (clear, zero-is, (items, present, counted, nought))) =
+accounts-balance start v own those requests replies code value time gives (inl refused) = absurd refused
+accounts-balance start v own those requests replies code value time gives (inr (clear, zero-is, (items, present, counted, nought))) =
     let (more, now, balance) = over-replies gives own those in
     omega (arith, balance, counted, ap length (listed-one present now))
 
 pub fresh-accounts-balance : FreshAccountsBalance
 fresh-accounts-balance requests replies v code value time gives says =
-    omega (arith, accounts-balance _ v fresh [] fresh-listed requests replies code value time gives says)
+    omega (arith, accounts-balance _ v [] fresh-listed requests replies code value time gives says)
 
 pub items-are-listed : ItemsAreListed
 items-are-listed v reached =

@@ -52,7 +52,7 @@ at-least-kind bound v o a w kind =
     record {
       top = a .top;
       times = λ t q. ⊎-elim (a .times t) (may t) (kind-times v w kind t q);
-      pends = λ k t q. ⊎-elim (λ (was, pended, low). omega (arith, a .pends k was pended)) (may t) (turned-earlier (kind-turned v w kind k) bound t q);
+      pending = λ k t q. ⊎-elim (λ (was, pended, low). omega (arith, a .pending k was pended)) (may t) (turned-earlier (kind-turned v w kind k) bound t q);
     }
 
 pub at-least-calls : {v w : View} {least : ℕ} (bound : Bound) → Run v w → ViewInOrder v → AtLeast bound least v → AtLeast bound least w

@@ -27,7 +27,7 @@ refused-without-threads v w dead run (by thread deed) quiet out (inl (inr (lives
 refused-without-threads v w dead run (by thread deed) quiet out (inr (clear, accepts)) = absurd (cleared w (by thread deed) clear 1 (dead-calls run dead thread))
 refused-without-threads v w dead run (sweep bound slice) quiet out does = absurd (true≢false quiet)
 
--- ---- and with nobody there nothing pends
+-- ---- and with nobody there nothing is pending
 
 deserted : (v : View) → ViewInOrder v → Dead v → (bound : Bound) → Smallest (λ time. IsTime v time ⊎ ((k : ℕ) × Pending bound (v .connection k) time)) never
 deserted v o dead bound = record {

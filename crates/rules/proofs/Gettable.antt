@@ -22,7 +22,7 @@ got-above : {bound : ℕ} {v : View} → AtLeast Strong bound v → (thread conn
     → bound ≤ out .time
 got-above {bound} {v} a thread connection which out does ok =
     let (channel, timestamp, ticket, from, takes, there, e) = accepted v (get thread connection which) out does ok .1 in
-    omega (arith, ap (λ (x : Outcome). x .time) e, a .pends connection timestamp (inl (takes-fits which _ timestamp takes)))
+    omega (arith, ap (λ (x : Outcome). x .time) e, a .pending connection timestamp (inl (takes-fits which _ timestamp takes)))
 
 pub gets-what-is-present : GetsWhatIsPresent
 gets-what-is-present v thread connection which out does ok =

@@ -32,8 +32,8 @@ forgetting-keeps gone (output t c) time q = q
 forgetting-keeps gone (input t c m s) time q = q
 
 pub left-at-least : {least : ℕ} (bound : Bound) (v : View) → AtLeast bound least v → (gone : Pairs) → AtLeast bound least (left v gone)
-left-at-least Weak v a gone = record { top = a .top; times = a .times; pends = λ k t q. a .pends k t (forgetting-keeps gone (v .connection k) t q) }
-left-at-least Strong v a gone = record { top = a .top; times = a .times; pends = λ k t q. a .pends k t (forgetting-waits gone (v .connection k) t q) }
+left-at-least Weak v a gone = record { top = a .top; times = a .times; pending = λ k t q. a .pending k t (forgetting-keeps gone (v .connection k) t q) }
+left-at-least Strong v a gone = record { top = a .top; times = a .times; pending = λ k t q. a .pending k t (forgetting-waits gone (v .connection k) t q) }
 
 -- ---- a sweep in one step
 

@@ -5,7 +5,7 @@ use Rattle.rules.proofs.Basis.{AttachInput, AttachOutput, Detach, End, 
 use Rattle.rules.specs.Claims.{DoesOneThing, GivesOnce}
 use Rattle.rules.specs.Rules.{below, output, input, View, withThread, withChannel, withConnection, seenAs, firstSeen, Item, Listed, tickets, Refusal, refuse, Takes, slice-short, Outcome, done, Lowest, withItem, swept, rule}
 use Rattle.rules.specs.Rules.{Refuses, NoneOf, Does, askedOf, Says, BoundOf}
-use Rattle.rules.specs.Runs.{Reply, replyOf, told, Gives}
+use Rattle.rules.specs.Runs.{Reply, replyOf, plainReply, Gives}
 use Rattle.rules.proofs.Laws.{some-one, smallest-one, not-below}
 use Rattle.rules.proofs.OneList.{listed-one}
 use Rattle.rules.proofs.Ways.{bound-one}
@@ -156,7 +156,7 @@ once {v} {w} same (Gives.called {call = call} o does rest) (Gives.called o′ do
     ap₂ (λ (x : Reply) (xs : List Reply). x ∷ xs) (ap replyOf one) (once (ap (λ (x : Outcome). x .view) one) rest rest′)
 once {v} {w} same (Gives.questioned {question = question} c a t says rest) (Gives.questioned d b u says′ rest′) =
     let one = says-one w question c a t d b u (subst (λ (x : View). Says x question c a t) same says) says′ in
-    ap₂ (λ (x : Reply) (xs : List Reply). x ∷ xs) (λ i. told (one .0 i) (one .1 i) (one .2 i)) (once same rest rest′)
+    ap₂ (λ (x : Reply) (xs : List Reply). x ∷ xs) (λ i. plainReply (one .0 i) (one .1 i) (one .2 i)) (once same rest rest′)
 
 pub gives-once : GivesOnce
 gives-once v w u requests replies others x y = once refl x y

@@ -87,7 +87,7 @@ state-above v time timestamp k above =
 still-low : (v : View) (time strong now : ℕ) → AtLeast Strong time v → StrongBound v strong → strong < never → StrongBound (swept v time) now → now ≤ strong
 still-low v time strong now above was under is =
     ⊎-elim (λ lives. is .at-most-each strong (inl lives))
-    (λ (k, waits). is .at-most-each strong (inr (k, subst Waits (sym (state-above v time strong k (above .pends k strong waits))) waits)))
+    (λ (k, waits). is .at-most-each strong (inr (k, subst Waits (sym (state-above v time strong k (above .pending k strong waits))) waits)))
     (was .attained under)
 
 pub sweeps-spare-the-rest : SweepsSpareTheRest

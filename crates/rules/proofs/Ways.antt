@@ -5,7 +5,7 @@ use Rattle.rules.proofs.Basis.{lt-of-not-le, ltb-true, State, Unseen, O
 use Rattle.rules.proofs.Basis.{Bound, Weak, Strong, Call, by, sweep, Ticket, Passable, stateNumber}
 use Rattle.rules.specs.Claims.{Living, ViewInOrder}
 use Rattle.rules.specs.Rules.{never, channelPlaces, connectionPlaces, threadPlaces, Pairs, below, Connection, unused, output, input, View, withThread, withChannel, withConnection, owner, outputTo, KeepTime, stateOn, IsTime, VisibleTime, BoundOf, Takes, Outcome, Lowest}
-use Rattle.rules.specs.Rules.{withItem, ended, left, raised, deedRow, rule, Does, seenAs}
+use Rattle.rules.specs.Rules.{withItem, ended, left, raisedTo, deedRow, rule, Does, seenAs}
 use Rattle.rules.proofs.Clear.{Clear, cleared}
 use Rattle.rules.proofs.Connections.{Turned, Allowed, Waits, ConnectionFitsIn, Turn, absent-done, reads, turned-freed, writes, turned-seen-as, turned-noticing, turned-raised, sees-first, seen-there, fits-seen-as}
 use Rattle.rules.proofs.Connections.{seen-above, fits-raised, freed, alike, opens, consumes}
@@ -87,20 +87,20 @@ Pending Strong c time = Waits (stateOn c time)
 pub record AtLeast (bound : Bound) (least : ℕ) (v : View) : Type 0 where
   pub top : least ≤ never
   pub times : (time : ℕ) → IsTime v time → least ≤ time
-  pub pends : (connection time : ℕ) → Pending bound (v .connection connection) time → least ≤ time
+  pub pending : (connection time : ℕ) → Pending bound (v .connection connection) time → least ≤ time
 
 -- so is each bound, and it is the greatest such time
 pub bound-at-least : {v : View} {least : ℕ} (bound : Bound) → BoundOf v bound least → AtLeast bound least v
-bound-at-least Weak is = record { top = is .at-most-never; times = λ t q. is .at-most-each t (inl q); pends = λ k t q. is .at-most-each t (inr (k, q)) }
-bound-at-least Strong is = record { top = is .at-most-never; times = λ t q. is .at-most-each t (inl q); pends = λ k t q. is .at-most-each t (inr (k, q)) }
+bound-at-least Weak is = record { top = is .at-most-never; times = λ t q. is .at-most-each t (inl q); pending = λ k t q. is .at-most-each t (inr (k, q)) }
+bound-at-least Strong is = record { top = is .at-most-never; times = λ t q. is .at-most-each t (inl q); pending = λ k t q. is .at-most-each t (inr (k, q)) }
 
 pub at-least-bound : {v : View} {least now : ℕ} (bound : Bound) → AtLeast bound least v → BoundOf v bound now → least ≤ now
-at-least-bound Weak a is = smallest-above is (a .top) (λ t. ⊎-elim (a .times t) (λ (k, q). a .pends k t q))
-at-least-bound Strong a is = smallest-above is (a .top) (λ t. ⊎-elim (a .times t) (λ (k, q). a .pends k t q))
+at-least-bound Weak a is = smallest-above is (a .top) (λ t. ⊎-elim (a .times t) (λ (k, q). a .pending k t q))
+at-least-bound Strong a is = smallest-above is (a .top) (λ t. ⊎-elim (a .times t) (λ (k, q). a .pending k t q))
 
 -- so is a smaller time
 pub at-least-smaller : {bound : Bound} {least smaller : ℕ} {v : View} → smaller ≤ least → AtLeast bound least v → AtLeast bound smaller v
-at-least-smaller small a = record { top = omega (arith, a .top); times = λ t q. omega (arith, a .times t q); pends = λ k t q. omega (arith, a .pends k t q) }
+at-least-smaller small a = record { top = omega (arith, a .top); times = λ t q. omega (arith, a .times t q); pending = λ k t q. omega (arith, a .pending k t q) }
 
 -- there is one
 pub bound-one : (v : View) (bound : Bound) (a b : ℕ) → BoundOf v bound a → BoundOf v bound b → a ≡ b
@@ -110,11 +110,11 @@ bound-one v Strong a b = smallest-one
 -- what waits is not below its mark
 pub at-least-waits : {v : View} {least : ℕ} → ViewInOrder v → (bound : Bound) → AtLeast bound least v → AtLeast Strong least v
 at-least-waits o Strong a = a
-at-least-waits {v} o Weak a = record { top = a .top; times = a .times; pends = λ k t q. (let w = waiting v o k t q in omega (arith, w .late, a .pends k (w .mark) (rw (w .is)))) }
+at-least-waits {v} o Weak a = record { top = a .top; times = a .times; pending = λ k t q. (let w = waiting v o k t q in omega (arith, w .late, a .pending k (w .mark) (rw (w .is)))) }
 
 pub at-least-allowed : {v : View} {least : ℕ} → AtLeast Strong least v → (time : ℕ) → Allowed v time → least ≤ time
 at-least-allowed {v} {least} a time (thread, visible, is, late) =
-    let low : least ≤ visible = smallest-above is (a .top) (λ t. ⊎-elim (λ q. a .times t (thread, q)) (λ (k, own, opened). a .pends k t (inr opened))) in
+    let low : least ≤ visible = smallest-above is (a .top) (λ t. ⊎-elim (λ q. a .times t (thread, q)) (λ (k, own, opened). a .pending k t (inr opened))) in
     omega arith
 
 pub takes-fits : (which : Which) (Fits : ℕ → Type 0) (timestamp : ℕ) → Takes which Fits timestamp → Fits timestamp
@@ -129,7 +129,7 @@ pub data Kind (v : View) : View → Type 0 where
   ends : (thread : ℕ) → Kind v (ended v thread)
   stocks : (channel timestamp ticket : ℕ) → v .channel channel ≡ true → timestamp < never → Ticket ticket → Allowed v timestamp → v .item channel timestamp ≡ none
       → Kind v (withItem v channel timestamp ticket)
-  raises : (bound : ℕ) → bound ≤ never → Kind v (raised v bound)
+  raises : (bound : ℕ) → bound ≤ never → Kind v (raisedTo v bound)
 
 -- items of these pairs may leave: the time of each is past for good
 abbrev pub MayLeave : View → Pairs → Type 0

@@ -16,7 +16,7 @@ use Rattle.calls.specs.Calls.{Call, sweep, detach, end, put, get, consume, isSw
 use Rattle.calls.specs.Questions.{Question, items-present, Request}
 use Rattle.calls.specs.States.{stateNumber}
 use Rattle.rules.specs.Rules.{never, channelPlaces, connectionPlaces, itemPlaces, threadPlaces, Pairs, everything, Connection, unused, output, input, View, freshView, owner, outputTo, inputFrom, KeepTime, stateOn, WeakBound, StrongBound, BoundOf, Item, IsPresent, _∈_, InLine, Listed, tickets, Outcome, left, Does, Says}
-use Rattle.rules.specs.Runs.{Run, Start, Reachable, CouldBeGot, Reply, Gives, acceptedPuts, ticketsBack}
+use Rattle.rules.specs.Runs.{Run, Reachable, CouldBeGot, Reply, Gives, acceptedPuts, ticketsBack}
 
 -- ---- every call is answered, in one way
 
@@ -237,10 +237,10 @@ NoPairTwice =
 abbrev pub ItemsAreListed : Type 0
 ItemsAreListed = (v : View) → Reachable v → (items : List Item) × Listed v everything items × (length items ≤ itemPlaces)
 
--- the accounts from any start, whose own items count as puts: `accounts-balance`
+-- the accounts from any view; a start's own items count as puts: `accounts-balance`
 abbrev pub AccountsBalance : Type 0
 AccountsBalance =
-    (start v : View) → Start start → (own : List Item) → Listed start everything own → (requests : List Request) (replies : List Reply) (code value time : ℕ)
+    (start v : View) (own : List Item) → Listed start everything own → (requests : List Request) (replies : List Reply) (code value time : ℕ)
     → Gives start requests replies v → Says v items-present code value time
     → length own + acceptedPuts requests replies ≡ value + ticketsBack requests replies
 

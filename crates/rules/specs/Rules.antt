@@ -47,11 +47,11 @@ pub record View : Type 0 where
 abbrev pub Pairs : Type 0
 Pairs = (channel timestamp : ℕ) → Bool
 
--- all of them: "the items present"
+-- all pairs, with or without an item; among them are all of "the items present"
 abbrev pub everything : Pairs
 everything channel timestamp = true
 
--- those with a timestamp below a bound: "Every present item with a smaller timestamp"
+-- the pairs with a timestamp below a bound, with or without an item; among them is "Every present item with a smaller timestamp"
 abbrev pub below : ℕ → Pairs
 below bound channel timestamp = ltb timestamp bound
 
@@ -207,9 +207,11 @@ pub record Item : Type 0 where
   pub timestamp : ℕ
   pub ticket : ℕ
 
+-- it is one of "the items present": in its channel, at its timestamp, is its ticket
 abbrev pub IsPresent : View → Item → Type 0
 IsPresent v item = v .item (item .channel) (item .timestamp) ≡ some (item .ticket)
 
+-- it is one of these
 infix 20 _∈_
 abbrev pub _∈_ : Item → List Item → Type 0
 item ∈ [] = ⊥
@@ -220,6 +222,7 @@ abbrev pub Before : Item → Item → Type 0
 Before item other =
     (item .channel < other .channel) ⊎ ((item .channel ≡ other .channel) × (item .timestamp < other .timestamp))
 
+-- each before all that follow it, so that "Tickets go to the front of the slice by channel number, then timestamp"
 abbrev pub InLine : List Item → Type 0
 InLine [] = Unit {0}
 InLine (first ∷ items) = ((item : Item) → item ∈ items → Before first item) × InLine items
@@ -229,11 +232,13 @@ pub record Listed (v : View) (among : Pairs) (items : List Item) : Type 0 where
   pub in-line : InLine items
   pub exactly : (item : Item) → (item ∈ items) ↔ (IsPresent v item × (among (item .channel) (item .timestamp) ≡ true))
 
+-- "Tickets go to the front of the slice": these items' own, in the same order
 abbrev pub tickets : List Item → List ℕ
 tickets items = map (λ (item : Item). item .ticket) items
 
 -- ---- what is free, and what a get takes
 
+-- what number a new thread, channel or connection may take: no thread lives with it, there is no such channel, no such connection
 abbrev pub FreeThread : View → ℕ → Type 0
 FreeThread v thread = v .thread thread ≡ none
 
@@ -253,6 +258,7 @@ Takes Earliest Fits timestamp = Fits timestamp × ((other : ℕ) → Fits other 
 Takes Latest Fits timestamp = Fits timestamp × ((other : ℕ) → Fits other → other ≤ timestamp)
 Takes (Named name) Fits timestamp = Fits timestamp × (timestamp ≡ name)
 
+-- the same of one connection: "UNSEEN" on it
 abbrev pub TakesUnseen : View → ℕ → Which → ℕ → Type 0
 TakesUnseen v connection which = Takes which (λ timestamp. stateOn (v .connection connection) timestamp ≡ Unseen)
 
@@ -293,7 +299,7 @@ no-input v connection = refuse 4 (inputFrom (v .connection connection) ≡ none)
 
 -- 5: "never given where a timestamp is needed"
 abbrev pub no-timestamp : ℕ → Refusal
-no-timestamp time = refuse 5 (never ≤ time)
+no-timestamp timestamp = refuse 5 (never ≤ timestamp)
 
 -- "Only a named one can meet 5."
 abbrev pub NamesNever : Which → Type 0
@@ -348,6 +354,7 @@ pub record Outcome : Type 0 where
   pub view : View
   pub slice : List ℕ
 
+-- 0: "accepted"
 abbrev pub done : ℕ → ℕ → View → List ℕ → Outcome
 done value time view slice = record { code = 0; value = value; time = time; view = view; slice = slice }
 
@@ -368,12 +375,12 @@ left v gone =
     (λ channel timestamp. cond (gone channel timestamp) none (v .item channel timestamp))
 
 -- "On every input connection the mark then becomes the larger of itself and the bound.": no item leaves by that
-abbrev pub raised : View → ℕ → View
-raised v bound = withConnections v (λ connection. consumedBelow bound (v .connection connection))
+abbrev pub raisedTo : View → ℕ → View
+raisedTo v bound = withConnections v (λ connection. consumedBelow bound (v .connection connection))
 
 -- "Every present item with a smaller timestamp leaves the desk.", and then the marks
 abbrev pub swept : View → ℕ → View
-swept v bound = raised (left v (below bound)) bound
+swept v bound = raisedTo (left v (below bound)) bound
 
 -- ---- the calls
 
@@ -479,6 +486,7 @@ askedOf v (state-of connection timestamp) =
     (λ value time. (value ≡ stateNumber (stateOn (v .connection connection) timestamp)) × (time ≡ 0))
 askedOf v items-present = asked [] (λ value time. (items : List Item) × Listed v everything items × (value ≡ length items) × (time ≡ 0))
 
+-- what a question is answered: it is "refused by the same codes", or it is answered with 0 and what it asks for
 abbrev pub Says : View → Question → (code value time : ℕ) → Type 0
 Says v question code value time =
     Refuses (askedOf v question .refusals) code value time

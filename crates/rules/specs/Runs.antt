@@ -19,7 +19,7 @@ pub data Run : View → View → Type 0 where
 pub data Start : View → Type 0 where
   fresh : Start freshView
 
--- "From a fresh desk, after any calls", and from any other start
+-- "From a fresh desk, after any calls": the fresh desk is the one start
 pub record Reachable (v : View) : Type 0 where
   pub start : View
   pub starts : Start start
@@ -46,19 +46,22 @@ pub record CouldBeGot (v : View) (item : Item) : Type 0 where
   pub timestamp : outcome .time ≡ item .timestamp
   pub ticket : outcome .value ≡ item .ticket
 
--- ---- what a program sees: the answer to each call and question, and the slice that it lent
+-- ---- what a program sees
 
+-- "Each answer is a code, a value and a time." Beside it stands the slice that was lent, as it then is.
 pub record Reply : Type 0 where
   pub code : ℕ
   pub value : ℕ
   pub time : ℕ
   pub slice : List ℕ
 
+-- the reply to a call
 abbrev pub replyOf : Outcome → Reply
 replyOf o = record { code = o .code; value = o .value; time = o .time; slice = o .slice }
 
-abbrev pub told : ℕ → ℕ → ℕ → Reply
-told code value time = record { code = code; value = value; time = time; slice = [] }
+-- the reply to a question, which is lent no slice
+abbrev pub plainReply : ℕ → ℕ → ℕ → Reply
+plainReply code value time = record { code = code; value = value; time = time; slice = [] }
 
 -- these are the replies to these calls and questions, one after the other, and this is the view after them; a question is "without effect"
 pub data Gives : View → List Request → List Reply → View → Type 0 where
@@ -66,10 +69,11 @@ pub data Gives : View → List Request → List Reply → View → Type 0 where
   called : {v w : View} {call : Call} {requests : List Request} {replies : List Reply} (o : Outcome) → Does v call o → Gives (o .view) requests replies w
       → Gives v (make call ∷ requests) (replyOf o ∷ replies) w
   questioned : {v w : View} {question : Question} {requests : List Request} {replies : List Reply} (code value time : ℕ) → Says v question code value time
-      → Gives v requests replies w → Gives v (ask question ∷ requests) (told code value time ∷ replies) w
+      → Gives v requests replies w → Gives v (ask question ∷ requests) (plainReply code value time ∷ replies) w
 
 -- ---- the accounts, "both taken from the answers"
 
+-- this number where the answer's code is 0 and it is a call that counts, and otherwise 0
 abbrev pub ifAccepted : Reply → Bool → ℕ → ℕ
 ifAccepted reply counts number = cond (eqb (reply .code) 0 && counts) number 0
 
@@ -78,6 +82,7 @@ abbrev pub putCount : Request → Reply → ℕ
 putCount (make call) reply = ifAccepted reply (isPut call) 1
 putCount (ask question) reply = 0
 
+-- "the accepted puts", over all calls and questions
 unfoldable pub acceptedPuts : List Request → List Reply → ℕ
 acceptedPuts requests replies = sum _+_ 0 (zipWith putCount requests replies)
 
@@ -86,5 +91,6 @@ abbrev pub backCount : Request → Reply → ℕ
 backCount (make call) reply = ifAccepted reply (isSweep call) (reply .value)
 backCount (ask question) reply = 0
 
+-- "all tickets handed back", over all calls and questions
 unfoldable pub ticketsBack : List Request → List Reply → ℕ
 ticketsBack requests replies = sum _+_ 0 (zipWith backCount requests replies)
