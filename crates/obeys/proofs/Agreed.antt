@@ -152,15 +152,11 @@ module _ (d : Desk) (o : DeskInOrder d) where
   agree-slice Bound bound slice is one = record {
     code = refl;
     fails = λ e. (
-      bound,
-      below d o bound .items,
-      is,
-      listed d o bound,
-      omega (arith, below d o bound .counts, leb-false (count (itemsBelow (itemsOf d) bound)) (length slice) e),
+      (bound, below d o bound .items, is, listed d o bound, omega (arith, below d o bound .counts, leb-false (count (itemsBelow (itemsOf d) bound)) (length slice) e)),
       sym (below d o bound .counts),
       refl,
     );
-    holds = λ e value told (b, items, is-b, those, short, counts, zero).
+    holds = λ e (b, items, is-b, those, short).
         let same : length items ≡ length (below d o bound .items) = ap length (listed-one (subst (λ (x : ℕ). Listed (viewOf d) (Rules.below x) items) (one b is-b) those) (listed d o bound)) in
         omega (arith, below d o bound .counts, leb-true (count (itemsBelow (itemsOf d) bound)) (length slice) e);
   }

@@ -77,7 +77,7 @@ unfoldable pub use Rattle.desk.specs.Times.{strongBound, visibleTime, weakBound
 pub use Rattle.desk.specs.declared.Desk.{Desk}
 pub use Rattle.desk.proofs.Outcome.{Passed, codes, passing}
 pub use Rattle.desk.proofs.Owned.{owned-below}
-pub use Rattle.rules.specs.Rules.{Before, BoundOf, Connection, Does, FreeChannel, FreeConnection, FreeThread, InLine, IsPresent, IsTime, KeepTime, Listed, Lowest, NoneOf, Outcome, Refusal, Refuses, Says, Smallest, StrongBound}
+pub use Rattle.rules.specs.Rules.{Before, BoundOf, Connection, Does, FreeChannel, FreeConnection, FreeThread, InLine, IsPresent, IsTime, KeepTime, Listed, Lowest, NoneOf, Not, Outcome, Refusal, Refuses, Says, Smallest, StrongBound}
 pub use Rattle.rules.specs.Rules.{TakesUnseen, View, VisibleTime, WeakBound, _∈_, askedOf, at, consumedBelow, desk-full, done, firstSeen, freedFrom, freshView, input, inputFrom, named-never, no-channel, no-input, no-output}
 pub use Rattle.rules.specs.Rules.{no-thread, not-its-own, not-open, nothing-unseen, noticed, noticing, output, outputTo, owner, refuse, rule, seenAs, slice-short, stateOn, sweepRow, table-full, taken, tickets}
 pub use Rattle.rules.specs.Rules.{too-early, unseenIf, unused, withChannel, withItem, withThread}

@@ -4,7 +4,8 @@ use Rattle.obeys.proofs.Basis.{isConnection, isLiving, itemAt, threadAt
 use Rattle.obeys.proofs.Basis.{Desk, BoundOf, Connection, IsTime, KeepTime, Smallest, StrongBound, VisibleTime, WeakBound, owner, stateOn, DeskInOrder, viewOf, is-open, is-pending, and-left, and-right, and-both, in-use-has}
 use Rattle.obeys.proofs.Basis.{used-inside, input-used, some-true, some-at, lies-there, timestamp-top, seen-at, at-seen}
 use Rattle.obeys.proofs.Lookup.{by-input, input-view, lives-view, owned-view, pending-reads, state-view, view-lives, view-owned}
-use Rattle.obeys.proofs.Smallest.{smallest-as, smallest-either, smallest-of, smallest-single}
+use Rattle.obeys.proofs.Smallest.{smallest-of}
+use Rattle.rules.proofs.Laws.{smallest-as, smallest-either, smallest-single}
 
 module _ (d : Desk) (o : DeskInOrder d) where
   abbrev row : ℕ → Row

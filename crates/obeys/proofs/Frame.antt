@@ -1,6 +1,6 @@
 -- A call does what its view says where its checks agree with the refusals of the view, and its effect with what is accepted. Assumes nothing.
 use Rattle.obeys.proofs.Basis.{_≡_, ap, refl, subst, sym, Bool, cond, false, true, inl, inr, List, [], _∷_, ℕ, eqb, eqb-true, Call, sliceOf, Told, Check, decided, needs, refusal, coded, Pass, bool-cases, passed}
-use Rattle.obeys.proofs.Basis.{true-not-false, checks, effect, outcome, sliceAfter, step, told, Desk, codes, Passed, passing, Does, NoneOf, Outcome, Refusal, Refuses, View, done, refuse, rule, outcomeOf, viewOf, answer}
+use Rattle.obeys.proofs.Basis.{true-not-false, checks, effect, outcome, sliceAfter, step, told, Desk, codes, Passed, passing, Does, NoneOf, Not, Outcome, Refusal, Refuses, View, done, refuse, rule, outcomeOf, viewOf, answer}
 use Rattle.rows.specs.declared.Answer.{Answer}
 use Rattle.desk.specs.declared.Next.{Next}
 use Rattle.obeys.proofs.Reached.{step-accepted}
@@ -15,8 +15,8 @@ view-ext thread channel connection item =
 
 pub record Matches (check : Check) (refusal : Refusal) : Type 0 where
   pub code : check .refused .code ≡ refusal .code
-  pub fails : check .holds ≡ false → refusal .Answers (check .refused .value) (check .refused .time)
-  pub holds : check .holds ≡ true → (value time : ℕ) → refusal .Answers value time → ⊥
+  pub fails : check .holds ≡ false → (case : refusal .Case) × (check .refused .value ≡ refusal .value case) × (check .refused .time ≡ refusal .time case)
+  pub holds : check .holds ≡ true → Not refusal
 
 -- one by one, each where those before it hold
 abbrev pub Agree : List Check → List Refusal → Type 0
@@ -31,7 +31,7 @@ check here rest = (here, rest)
 
 -- a refusal that answers 0 and 0
 pub plain : (b : Bool) (code : ℕ) (Case : Type 0) → (b ≡ false → Case) → (b ≡ true → Case → ⊥) → Matches (needs b (refusal code)) (refuse code Case)
-plain b code Case fails holds = record { code = refl; fails = λ e. (fails e, refl, refl); holds = λ e value time case. holds e (case .0) }
+plain b code Case fails holds = record { code = refl; fails = λ e. (fails e, refl, refl); holds = holds }
 
 none-of : (cs : List Check) (rs : List Refusal) → Agree cs rs → Pass cs → NoneOf rs
 none-of [] [] agree pass = tt
@@ -54,7 +54,7 @@ module _ (told : Told) where
           → (c .holds ≡ true → eqb (decided cs told .code) 0 ≡ false → RefusesAs rs (decided cs told))
           → RefusesAs (r ∷ rs) (cond b (decided cs told) (c .refused))
       go true e refused later = inr (agree .0 .holds e, later e refused)
-      go false e refused later = inl (agree .0 .code, agree .0 .fails e)
+      go false e refused later = let (case, value, time) = agree .0 .fails e in inl (case, agree .0 .code, value, time)
 
   -- so either every check passes and nothing is refused, or the first that fails is what the view refuses with
   pub either-way : (cs : List Check) (rs : List Refusal) → coded cs ≡ true → Agree cs rs → {P : Type 0}

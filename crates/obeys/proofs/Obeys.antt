@@ -142,7 +142,7 @@ desk-accounts-balance d starts requests all =
     let e = deskAfter d requests in
     let (own, those, counted) = own-items (desk-says d r items-present) in
     ap (λ (n : ℕ). n + acceptedPuts requests (repliesOf d requests)) counted
-    ∙ accounts-balance (viewOf d) (viewOf e) (desk-starts d starts) own those requests (repliesOf d requests) _ _ _ (gives-from d r requests all)
+    ∙ accounts-balance (viewOf d) (viewOf e) own those requests (repliesOf d requests) _ _ _ (gives-from d r requests all)
     (desk-says e (requests-reached d r requests all) items-present)
 
 pub fresh-desk-accounts-balance : FreshDeskAccountsBalance

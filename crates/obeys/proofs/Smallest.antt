@@ -1,26 +1,7 @@
 -- The smallest that a loop over the places computes is the smallest that the rules speak of: it is so of the places below the one that the loop comes
 -- to. Assumes nothing.
-use Rattle.obeys.proofs.Basis.{_≡_, refl, subst, Bool, true, _⊎_, inl, inr, ⊎-elim, _<_, _≤_, min, suc, ℕ, decLe, le-refl, not-suc-le-zero, arith, never, smallest, Smallest, true-not-false, each-keeps, and-this}
-
--- of the same times in other words
-pub smallest-as : {A B : ℕ → Type 0} {n : ℕ} → ((time : ℕ) → A time → B time) → ((time : ℕ) → B time → A time) → Smallest A n → Smallest B n
-smallest-as to from s =
-    record { at-most-never = s .at-most-never; at-most-each = λ time b. s .at-most-each time (from time b); attained = λ below. to _ (s .attained below) }
-
--- of one time
-pub smallest-single : {n : ℕ} → n ≤ never → Smallest (λ time. n ≡ time) n
-smallest-single top = record { at-most-never = top; at-most-each = λ time same. omega arith; attained = λ below. refl }
-
--- of two kinds of times
-pub smallest-either : {A B : ℕ → Type 0} {a b : ℕ} → Smallest A a → Smallest B b → Smallest (λ time. A time ⊎ B time) (min a b)
-smallest-either {A} {B} {a} {b} s t = record {
-  at-most-never = omega (arith, s .at-most-never);
-  at-most-each = λ time. ⊎-elim (λ x. omega (arith, s .at-most-each time x)) (λ x. omega (arith, t .at-most-each time x));
-  attained = λ below. elim (decLe a b) [
-    | yes low ↦ inl (subst A (omega arith) (s .attained (omega arith)))
-    | no high ↦ inr (subst B (omega arith) (t .attained (omega arith)))
-  ];
-}
+use Rattle.obeys.proofs.Basis.{_≡_, Bool, true, inl, inr, ⊎-elim, _<_, suc, ℕ, le-refl, not-suc-le-zero, arith, never, smallest, Smallest, true-not-false, each-keeps, and-this}
+use Rattle.rules.proofs.Laws.{smallest-as, smallest-either}
 
 -- of the times of those places that count, each of which has its own smallest
 module _ (counts : ℕ → Bool) (time : ℕ → ℕ) (Times : ℕ → ℕ → Type 0) where

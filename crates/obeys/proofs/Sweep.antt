@@ -75,7 +75,7 @@ module _ (d : Desk) (bound : ℕ) where
       ∙ output-row (itemsOf d) row writes
       ∙ sym (ap (consumedBelow bound) (output-row (itemsOf d) row writes)))
 
-  pub view-raised : viewOf (raisedTo d bound) ≡ Rules.raised (viewOf d) bound
+  pub view-raised : viewOf (raisedTo d bound) ≡ Rules.raisedTo (viewOf d) bound
   unfolding viewOf raisedTo
   view-raised = view-ext (λ t. refl) (λ c. refl) (connection-changed d (raisedTo d bound) (λ row. raisedInput row bound) (consumedBelow bound) refl refl refl row-raised-input) (λ c n. refl)
 
@@ -85,4 +85,4 @@ pub view-swept : (d : Desk) → DeskInOrder d → (bound : ℕ) → viewOf (swep
 unfolding swept
 view-swept d o bound =
     view-raised (left d (itemsBelow (itemsOf d) bound)) bound
-    ∙ ap (λ (v : View). Rules.raised v bound) (view-left d o (Rules.below bound) (itemsBelow (itemsOf d) bound) (below-places (itemsOf d) bound))
+    ∙ ap (λ (v : View). Rules.raisedTo v bound) (view-left d o (Rules.below bound) (itemsBelow (itemsOf d) bound) (below-places (itemsOf d) bound))

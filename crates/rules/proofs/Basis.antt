@@ -4,7 +4,7 @@ pub use mathlib.Core.Bool.{Bool, true, false, cond, not, true≢false, Bool-disc
 pub use mathlib.Core.List.{List, [], _∷_, _++_}
 pub use mathlib.Core.Logic.{_⊎_, inl, inr, ⊎-elim, _↔_, _≢_, by-cases, Dec·and, Dec·not, Dec·not-not, Dec·of-iff}
 pub use mathlib.Core.Option.{Option, none, some, Option·some-injective, Option·none-ne-some, discrete as Option-discrete}
-pub use Prim.Native.Nat.{ℕ, zero, suc, max, _+_, _-_, _≤_, _<_}
+pub use Prim.Native.Nat.{ℕ, zero, suc, max, min, _+_, _-_, _≤_, _<_}
 pub use native.Mathlib.Decide.{decLt, decLe, ℕ-discrete, map-dec}
 pub use native.Mathlib.Omega.{arith}
 pub use native.Mathlib.Nat.{le-refl, lt-of-not-le}

@@ -1,5 +1,5 @@
 -- Reading what was changed at one number, deciding, and searching. Assumes nothing.
-use Rattle.rules.proofs.Basis.{_≡_, _∙_, refl, sym, ap, subst, Bool, true, false, true≢false, cond, _⊎_, inl, inr, ⊎-elim, by-cases, Option, none, some, Option·none-ne-some, Option-discrete, ℕ, zero, suc, _-_, _≤_, _<_, decLt}
+use Rattle.rules.proofs.Basis.{_≡_, _∙_, refl, sym, ap, subst, Bool, true, false, true≢false, cond, _⊎_, inl, inr, ⊎-elim, by-cases, Option, none, some, Option·none-ne-some, Option-discrete, ℕ, zero, suc, _-_, min, _≤_, _<_, decLt, decLe}
 use Rattle.rules.proofs.Basis.{ℕ-discrete, map-dec, arith, le-refl, eqb, ltb, eqb-true, eqb-false, eq-eqb, ne-eqb, ltb-true, ltb-false, State, Absent, Unseen, Open, Consumed, stateNumber}
 use Rattle.rules.specs.Rules.{never, View, at, withItem, Smallest, Lowest}
 
@@ -114,3 +114,23 @@ smallest-above {Among} {least} {bound} s top each =
 -- there is one smallest
 pub smallest-one : {Among : ℕ → Type 0} {a b : ℕ} → Smallest Among a → Smallest Among b → a ≡ b
 smallest-one s t = omega (arith, smallest-above t (s .at-most-never) (s .at-most-each), smallest-above s (t .at-most-never) (t .at-most-each))
+
+-- the smallest of the same times in other words
+pub smallest-as : {A B : ℕ → Type 0} {n : ℕ} → ((time : ℕ) → A time → B time) → ((time : ℕ) → B time → A time) → Smallest A n → Smallest B n
+smallest-as to from s =
+    record { at-most-never = s .at-most-never; at-most-each = λ time b. s .at-most-each time (from time b); attained = λ below. to _ (s .attained below) }
+
+-- of one time
+pub smallest-single : {n : ℕ} → n ≤ never → Smallest (λ time. n ≡ time) n
+smallest-single top = record { at-most-never = top; at-most-each = λ time same. omega arith; attained = λ below. refl }
+
+-- of two kinds of times
+pub smallest-either : {A B : ℕ → Type 0} {a b : ℕ} → Smallest A a → Smallest B b → Smallest (λ time. A time ⊎ B time) (min a b)
+smallest-either {A} {B} {a} {b} s t = record {
+  at-most-never = omega (arith, s .at-most-never);
+  at-most-each = λ time. ⊎-elim (λ x. omega (arith, s .at-most-each time x)) (λ x. omega (arith, t .at-most-each time x));
+  attained = λ below. elim (decLe a b) [
+    | yes low ↦ inl (subst A (omega arith) (s .attained (omega arith)))
+    | no high ↦ inr (subst B (omega arith) (t .attained (omega arith)))
+  ];
+}
