@@ -170,7 +170,7 @@ left d gone =
 unfoldable pub raisedTo : Desk → ℕ → Desk
 raisedTo d bound = withConnections d (d .attached) (raisedConnections (connectionsOf d) bound)
 
--- "Every present item with a smaller timestamp leaves the desk."
+-- "Every present item with a smaller timestamp leaves the desk.", and then the marks
 unfoldable pub swept : Desk → ℕ → Desk
 swept d bound = raisedTo (left d (itemsBelow (itemsOf d) bound)) bound
 
@@ -262,6 +262,7 @@ unfoldable pub checks : Desk → Call → List Check
 checks d (by thread deed) = thread-lives d thread ∷ deedRow d thread deed .checks
 checks d (sweep bound slice) = sweepRow d (boundOf d bound) slice .checks
 
+-- what an accepted call does to the desk, and what it tells
 unfoldable pub effect : Desk → Call → Desk
 effect d (by thread deed) = deedRow d thread deed .effect
 effect d (sweep bound slice) = sweepRow d (boundOf d bound) slice .effect
@@ -274,6 +275,7 @@ told d (sweep bound slice) = sweepRow d (boundOf d bound) slice .told
 unfoldable pub outcome : Desk → List Check → Told → Desk → Next
 outcome d tests says next = record { answer = decided tests says; desk = cond (passes tests) next d }
 
+-- what a call does, accepted or refused: every contract of a call is an equality with this
 unfoldable pub step : Desk → Call → Next
 step d call = outcome d (checks d call) (told d call) (effect d call)
 
