@@ -20,7 +20,7 @@ use Rattle.calls.specs.Calls.{Call, by, sweep}
 use Rattle.calls.specs.States.{isOpen}
 use Rattle.rows.specs.declared.Found.{Found}
 use Rattle.rows.specs.declared.Found.the-variants.{At, Nothing}
-use Rattle.rows.specs.Answers.{Told, tells, answer, refusal, Check, needs, decided}
+use Rattle.rows.specs.Answers.{Told, tells, answer, refusal, Check, needs, passes, decided}
 use Rattle.rows.specs.Facts.{got, consumedByName, raised}
 use Rattle.rows.specs.Numbers.{never, noThread, noConnection, input, output}
 use Rattle.tables.specs.Tables.{connectionAt, isLiving, owns, threadPlaces, channelPlaces, connectionPlaces, itemPlaces}
@@ -170,7 +170,7 @@ left d gone =
 unfoldable pub raisedTo : Desk → ℕ → Desk
 raisedTo d bound = withConnections d (d .attached) (raisedConnections (connectionsOf d) bound)
 
--- "Every present item with a smaller timestamp leaves the desk."
+-- "Every present item with a smaller timestamp leaves the desk.", and then the marks
 unfoldable pub swept : Desk → ℕ → Desk
 swept d bound = raisedTo (left d (itemsBelow (itemsOf d) bound)) bound
 
@@ -262,6 +262,7 @@ unfoldable pub checks : Desk → Call → List Check
 checks d (by thread deed) = thread-lives d thread ∷ deedRow d thread deed .checks
 checks d (sweep bound slice) = sweepRow d (boundOf d bound) slice .checks
 
+-- what an accepted call does to the desk, and what it tells
 unfoldable pub effect : Desk → Call → Desk
 effect d (by thread deed) = deedRow d thread deed .effect
 effect d (sweep bound slice) = sweepRow d (boundOf d bound) slice .effect
@@ -270,10 +271,11 @@ unfoldable pub told : Desk → Call → Told
 told d (by thread deed) = deedRow d thread deed .told
 told d (sweep bound slice) = sweepRow d (boundOf d bound) slice .told
 
--- the answer, and the next desk: the one that is given where all checks hold. A refusal "leaves the desk and the slice as they were".
+-- the answer, and the next desk, which is the given one where no refusal is the case. A refusal "leaves the desk and the slice as they were".
 unfoldable pub outcome : Desk → List Check → Told → Desk → Next
-outcome d tests tells next = record { answer = decided tests tells; desk = cond (eqb (decided tests tells .code) 0) next d }
+outcome d tests says next = record { answer = decided tests says; desk = cond (passes tests) next d }
 
+-- what a call does, accepted or refused: every contract of a call is an equality with this
 unfoldable pub step : Desk → Call → Next
 step d call = outcome d (checks d call) (told d call) (effect d call)
 

@@ -17,6 +17,7 @@ use Rattle.desk.specs.Calls.{thread-lives, connection-goes, timestamp-gi
 abbrev pub connection-exists : Desk → ℕ → Check
 connection-exists d connection = needs (isConnection (connectionsOf d) connection) (refusal 3)
 
+-- "refused by the same codes"
 unfoldable pub questionChecks : Desk → Question → List Check
 questionChecks d (visible-time thread) = thread-lives d thread ∷ []
 questionChecks d weak-bound = []
@@ -35,5 +36,6 @@ questionTold d (state-of connection timestamp) =
     tells (stateNumber (state (itemsOf d) (connectionAt (connectionsOf d) connection) timestamp)) 0
 questionTold d items-present = tells (itemsPresent d) 0
 
+-- what a question is answered: every contract of a question is an equality with this
 unfoldable pub reply : Desk → Question → Answer
 reply d question = decided (questionChecks d question) (questionTold d question)

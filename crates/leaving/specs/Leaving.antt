@@ -1,4 +1,4 @@
--- Document 01, "Sweeps" and the rows that a detach or an end frees. Assumes nothing.
+-- Document 01, "Sweeps", and the rows that an end frees. Assumes nothing.
 use mathlib.Core.Bool.{Bool, cond, _&&_}
 use mathlib.Core.List.{List, [], _∷_, _++_}
 use Prim.Native.Nat.{ℕ, zero, suc}

@@ -31,7 +31,7 @@ pub use Rattle.calls.specs.declared.Which.{Which}
 pub use Rattle.calls.specs.declared.Which.the-variants.{Earliest, Latest, Named}
 pub use Rattle.calls.proofs.Known.{is-open, is-unseen, is-pending}
 pub use Rattle.calls.proofs.Passable.{passable-more}
-unfoldable pub use Rattle.rows.specs.Answers.{decided}
+unfoldable pub use Rattle.rows.specs.Answers.{decided, passes}
 pub use Rattle.rows.specs.Answers.{Told, Check, accepted, answer, needs, refusal}
 unfoldable pub use Rattle.rows.specs.Facts.{cleared, consumedByName, got, raised}
 pub use Rattle.rows.specs.Facts.{withFacts}
@@ -75,7 +75,7 @@ unfoldable pub use Rattle.desk.specs.Desk.{fresh}
 pub use Rattle.desk.specs.Desk.{connectionsOf, itemsOf, threadsOf, withChannels, withConnections, withThreads}
 unfoldable pub use Rattle.desk.specs.Times.{strongBound, visibleTime, weakBound}
 pub use Rattle.desk.specs.declared.Desk.{Desk}
-pub use Rattle.desk.proofs.Outcome.{Passed, codes, passing}
+pub use Rattle.desk.proofs.Outcome.{Passed, passing}
 pub use Rattle.desk.proofs.Owned.{owned-below}
 pub use Rattle.rules.specs.Rules.{Before, BoundOf, Connection, Does, FreeChannel, FreeConnection, FreeThread, InLine, IsPresent, IsTime, KeepTime, Listed, Lowest, NoneOf, Not, Outcome, Refusal, Refuses, Says, Smallest, StrongBound}
 pub use Rattle.rules.specs.Rules.{TakesUnseen, View, VisibleTime, WeakBound, _∈_, askedOf, at, consumedBelow, desk-full, done, firstSeen, freedFrom, freshView, input, inputFrom, named-never, no-channel, no-input, no-output}

@@ -1,11 +1,10 @@
 -- Each accepted call does what the view says, by the law of its effect, and so does each call, by the agreement of its checks. Assumes nothing.
 use Rattle.obeys.proofs.Basis.{_∙_, _≡_, ap, refl, sym, false, true, some, List, [], _∷_, _<_, suc, ℕ, arith, eqb, leb, ltb, length, eqb-true, leb-true, ltb-true, count, with-same, without-same, Call, Passable, by, sliceOf}
-use Rattle.obeys.proofs.Basis.{sweep, isOpen, isPending, AttachInput, AttachOutput, Channel, Consume, ConsumeUntil, Detach, End, Get, NewThread, Put, Set, Consumed, Open, Which, decided, Told, foundTold, inward, stateOf}
-use Rattle.obeys.proofs.Basis.{Row, Found, At, Nothing, Item, Passed, and-left, and-right, bool-cases, true-not-false, isUnseenAt, lies, placeOf, state, stateAt, connectionAt, isConnection, itemAt, owns, handedBack}
-use Rattle.obeys.proofs.Basis.{itemsBelow, adopted, attachedAs, boundOf, checks, effect, freeChannel, freeConnection, freeThread, isFound, becomesOpen, slice-long, sliceAfter, soughtBy, told, connectionsOf, itemsOf}
-use Rattle.obeys.proofs.Basis.{visibleTime, Desk, fewer-free, owned-below, used-inside, BoundOf, Connection, View, consumedBelow, done, inputFrom, outputTo, rule, seenAs, sweepRow, unused, DeskDoes, DeskInOrder}
-use Rattle.obeys.proofs.Basis.{connectionOf, viewOf, never, swept, at, is-open, is-unseen, same-elsewhere, with-elsewhere, without-elsewhere, unconsumed, in-use-has, owned-used, used-reads, sought-found, Holds, found-holds}
-use Rattle.obeys.proofs.Basis.{lies-there}
+use Rattle.obeys.proofs.Basis.{sweep, isOpen, isPending, AttachInput, AttachOutput, Channel, Consume, ConsumeUntil, Detach, End, Get, NewThread, Put, Set, Consumed, Open, Which, foundTold, inward, stateOf, Row, Found, At}
+use Rattle.obeys.proofs.Basis.{Nothing, Item, Passed, and-left, and-right, bool-cases, true-not-false, isUnseenAt, lies, placeOf, state, stateAt, connectionAt, isConnection, itemAt, owns, handedBack, itemsBelow, adopted}
+use Rattle.obeys.proofs.Basis.{attachedAs, boundOf, checks, effect, freeChannel, freeConnection, freeThread, isFound, becomesOpen, slice-long, sliceAfter, soughtBy, told, connectionsOf, itemsOf, visibleTime, Desk}
+use Rattle.obeys.proofs.Basis.{fewer-free, owned-below, used-inside, BoundOf, Connection, View, consumedBelow, done, inputFrom, outputTo, rule, seenAs, sweepRow, unused, DeskDoes, DeskInOrder, connectionOf, viewOf, never}
+use Rattle.obeys.proofs.Basis.{swept, at, is-open, is-unseen, same-elsewhere, with-elsewhere, without-elsewhere, unconsumed, in-use-has, owned-used, used-reads, sought-found, Holds, found-holds, lies-there, passes}
 use native.Mathlib.Numerals.{add-one}
 use Rattle.rules.specs.Rules.{withConnection}
 use Rattle.desk.specs.Calls as Calls
@@ -126,15 +125,15 @@ module _ (d : Desk) (o : DeskInOrder d) where
 
   -- ---- a refused call leaves the slice
 
-  short-stays : (bound : ℕ) (slice : List ℕ) (tells : Told) → eqb (decided (slice-long d bound slice ∷ []) tells .code) 0 ≡ false → handedBack (d .items) (itemsBelow (itemsOf d) bound) slice ≡ slice
-  unfolding decided handedBack
-  short-stays bound slice tells e =
+  short-stays : (bound : ℕ) (slice : List ℕ) → passes (slice-long d bound slice ∷ []) ≡ false → handedBack (d .items) (itemsBelow (itemsOf d) bound) slice ≡ slice
+  unfolding passes handedBack
+  short-stays bound slice e =
       bool-cases (leb (count (itemsBelow (itemsOf d) bound)) (length slice)) (λ q. absurd (true-not-false {b = true} refl (rw q at e))) (λ q. rw q)
 
-  stays : (call : Call) → eqb (decided (checks d call) (told d call) .code) 0 ≡ false → sliceAfter d call ≡ sliceOf call
+  stays : (call : Call) → passes (checks d call) ≡ false → sliceAfter d call ≡ sliceOf call
   unfolding checks sliceAfter
   stays (by thread deed) e = refl
-  stays (sweep bound slice) e = short-stays (boundOf d bound) slice (told d (sweep bound slice)) e
+  stays (sweep bound slice) e = short-stays (boundOf d bound) slice e
 
 pub desk-does : DeskDoes
 desk-does d r call fits =

@@ -1,6 +1,6 @@
 -- A call does what its view says where its checks agree with the refusals of the view, and its effect with what is accepted. Assumes nothing.
-use Rattle.obeys.proofs.Basis.{_≡_, ap, refl, subst, sym, Bool, cond, false, true, inl, inr, List, [], _∷_, ℕ, eqb, eqb-true, Call, sliceOf, Told, Check, decided, needs, refusal, coded, Pass, bool-cases, passed}
-use Rattle.obeys.proofs.Basis.{true-not-false, checks, effect, outcome, sliceAfter, step, told, Desk, codes, Passed, passing, Does, NoneOf, Not, Outcome, Refusal, Refuses, View, done, refuse, rule, outcomeOf, viewOf, answer}
+use Rattle.obeys.proofs.Basis.{_≡_, ap, refl, subst, sym, Bool, cond, false, true, inl, inr, List, [], _∷_, ℕ, Call, sliceOf, Told, Check, decided, needs, refusal, Pass, bool-cases, passed, true-not-false, checks, effect}
+use Rattle.obeys.proofs.Basis.{outcome, sliceAfter, step, told, Desk, Passed, passing, Does, NoneOf, Not, Outcome, Refusal, Refuses, View, done, refuse, rule, outcomeOf, viewOf, answer, passes, _&&_}
 use Rattle.rows.specs.declared.Answer.{Answer}
 use Rattle.desk.specs.declared.Next.{Next}
 use Rattle.obeys.proofs.Reached.{step-accepted}
@@ -43,25 +43,25 @@ module _ (told : Told) where
   abbrev RefusesAs : List Refusal → Answer → Type 0
   RefusesAs rs a = Refuses rs (a .code) (a .value) (a .time)
 
-  first-refusal : (cs : List Check) (rs : List Refusal) → Agree cs rs → eqb (decided cs told .code) 0 ≡ false → RefusesAs rs (decided cs told)
-  unfolding decided
+  first-refusal : (cs : List Check) (rs : List Refusal) → Agree cs rs → passes cs ≡ false → RefusesAs rs (decided cs told)
+  unfolding decided passes
   first-refusal [] [] agree refused = absurd (true-not-false {b = true} refl refused)
   first-refusal [] (r ∷ rs) agree refused = absurd agree
   first-refusal (c ∷ cs) [] agree refused = absurd agree
   first-refusal (c ∷ cs) (r ∷ rs) agree refused = go (c .holds) refl refused (λ e. first-refusal cs rs (agree .1 e))
     where
-      go : (b : Bool) → c .holds ≡ b → eqb (cond b (decided cs told) (c .refused) .code) 0 ≡ false
-          → (c .holds ≡ true → eqb (decided cs told .code) 0 ≡ false → RefusesAs rs (decided cs told))
+      go : (b : Bool) → c .holds ≡ b → (b && passes cs) ≡ false
+          → (c .holds ≡ true → passes cs ≡ false → RefusesAs rs (decided cs told))
           → RefusesAs (r ∷ rs) (cond b (decided cs told) (c .refused))
       go true e refused later = inr (agree .0 .holds e, later e refused)
       go false e refused later = let (case, value, time) = agree .0 .fails e in inl (case, agree .0 .code, value, time)
 
   -- so either every check passes and nothing is refused, or the first that fails is what the view refuses with
-  pub either-way : (cs : List Check) (rs : List Refusal) → coded cs ≡ true → Agree cs rs → {P : Type 0}
-      → (Pass cs → NoneOf rs → P) → (eqb (decided cs told .code) 0 ≡ false → RefusesAs rs (decided cs told) → P) → P
-  either-way cs rs codes agree accepted refused =
-      bool-cases (eqb (decided cs told .code) 0)
-      (λ e. let pass = passed cs told codes (eqb-true _ 0 e) in accepted pass (none-of cs rs agree pass))
+  pub either-way : (cs : List Check) (rs : List Refusal) → Agree cs rs → {P : Type 0}
+      → (passes cs ≡ true → NoneOf rs → P) → (passes cs ≡ false → RefusesAs rs (decided cs told) → P) → P
+  either-way cs rs agree accepted refused =
+      bool-cases (passes cs)
+      (λ e. accepted e (none-of cs rs agree (passed cs e)))
       (λ e. refused e (first-refusal cs rs agree e))
 
 -- ---- a call
@@ -69,13 +69,13 @@ module _ (told : Told) where
 module _ (d : Desk) (call : Call)
     (agree : Agree (checks d call) (rule (viewOf d) call .refusals))
     (accepts : Passed d call → rule (viewOf d) call .Accepts (done (told d call .value) (told d call .time) (viewOf (effect d call)) (sliceAfter d call)))
-    (stays : eqb (decided (checks d call) (told d call) .code) 0 ≡ false → sliceAfter d call ≡ sliceOf call) where
+    (stays : passes (checks d call) ≡ false → sliceAfter d call ≡ sliceOf call) where
   abbrev after : Next → Outcome
   after next = record { code = next .answer .code; value = next .answer .value; time = next .answer .time; view = viewOf (next .desk); slice = sliceAfter d call }
 
   pub does : Does (viewOf d) call (outcomeOf d call)
   unfolding outcomeOf step outcome
   does =
-      either-way (told d call) (checks d call) (rule (viewOf d) call .refusals) (codes d call) agree
+      either-way (told d call) (checks d call) (rule (viewOf d) call .refusals) agree
       (λ pass none. inr (none, subst (rule (viewOf d) call .Accepts) (sym (ap after (step-accepted d call pass))) (accepts (passing d call pass))))
       (λ e refused. inl (refused, ap (λ (b : Bool). viewOf (cond b (effect d call) d)) e, stays e))

@@ -1,21 +1,21 @@
 -- A step by its checks; a call leads from a reached desk to a reached desk, so a law of every reached desk needs one law of a step. Assumes nothing.
-use Rattle.obeys.proofs.Basis.{AllPassable, Call, Desk, List, Pass, Passable, Passed, Reached, [], _++_, _∙_, _∷_, _≡_, accepted, after, ap, bool-cases, checks, codes, decided, effect, eqb, eqb-true, fresh, outcome}
-use Rattle.obeys.proofs.Basis.{pass-decided, passed, passing, refl, step, subst, told, answer, passable-more}
+use Rattle.obeys.proofs.Basis.{AllPassable, Call, Desk, List, Passable, Passed, Reached, [], _++_, _∙_, _∷_, _≡_, accepted, after, ap, bool-cases, checks, effect, fresh, outcome, pass-decided, passed, passing, refl, step}
+use Rattle.obeys.proofs.Basis.{subst, told, answer, passable-more, passes, true}
 use Rattle.obeys.specs.Reached.{DeskStart, fresh-desk}
 
 -- ---- a step
 
 -- a call that passes its checks
-pub step-accepted : (d : Desk) (call : Call) → Pass (checks d call) → step d call ≡ record { answer = accepted (told d call); desk = effect d call }
+pub step-accepted : (d : Desk) (call : Call) → passes (checks d call) ≡ true → step d call ≡ record { answer = accepted (told d call); desk = effect d call }
 unfolding step outcome
-step-accepted d call p = rw (pass-decided (checks d call) (told d call) p)
+step-accepted d call p = rw (p, pass-decided (checks d call) (told d call) (passed (checks d call) p))
 
 -- what holds of a desk holds after a call, if the effects keep it
 pub step-keeps : (P : Desk → Type 0) (d : Desk) (call : Call) → P d → (Passed d call → P (effect d call)) → P (step d call .desk)
 unfolding step outcome
 step-keeps P d call kept changed =
-    bool-cases (eqb (decided (checks d call) (told d call) .code) 0)
-    (λ e. rw e (changed (passing d call (passed (checks d call) (told d call) (codes d call) (eqb-true _ 0 e)))))
+    bool-cases (passes (checks d call))
+    (λ e. rw e (changed (passing d call e)))
     (λ e. rw e kept)
 
 after-keeps : (P : Desk → Type 0) → ((d : Desk) (call : Call) → P d → Passable call → P (step d call .desk))

@@ -1,6 +1,6 @@
 -- The desk answers each question as its view says: its checks agree with the refusals, and its answer is read off the view. Assumes nothing.
-use Rattle.obeys.proofs.Basis.{ap, refl, sym, inl, inr, Question, items-present, state-of, strong-bound, visible-time, weak-bound, stateNumber, coded, Pass, pass-decided, Desk, Connection, Says, askedOf, stateOn, DeskSays}
-use Rattle.obeys.proofs.Basis.{DeskInOrder, viewOf, _≡_, never, true, connectionsOf, used-reads}
+use Rattle.obeys.proofs.Basis.{ap, refl, sym, inl, inr, Question, items-present, state-of, strong-bound, visible-time, weak-bound, stateNumber, Pass, pass-decided, Desk, Connection, Says, askedOf, stateOn, DeskSays}
+use Rattle.obeys.proofs.Basis.{DeskInOrder, viewOf, never, connectionsOf, used-reads, passed}
 use Rattle.desk.specs.Questions.{questionChecks, questionTold, reply}
 use Rattle.obeys.proofs.Order.{every-desk-in-order}
 use Rattle.obeys.proofs.Lookup.{unused-view, input-view, used-not-free}
@@ -8,14 +8,6 @@ use Rattle.obeys.proofs.Bounds.{visible, weak, strong}
 use Rattle.obeys.proofs.Listed.{present, present-listed}
 use Rattle.obeys.proofs.Agreed.{agree-thread, agree-below, agree-input}
 use Rattle.obeys.proofs.Frame.{Agree, plain, check, either-way}
-
-question-codes : (d : Desk) (q : Question) → coded (questionChecks d q) ≡ true
-unfolding questionChecks
-question-codes d (visible-time thread) = refl
-question-codes d weak-bound = refl
-question-codes d strong-bound = refl
-question-codes d (state-of connection timestamp) = refl
-question-codes d items-present = refl
 
 module _ (d : Desk) (o : DeskInOrder d) where
   question-agree : (q : Question) → Agree (questionChecks d q) (askedOf (viewOf d) q .refusals)
@@ -40,8 +32,8 @@ module _ (d : Desk) (o : DeskInOrder d) where
   says : (q : Question) → Says (viewOf d) q (reply d q .code) (reply d q .value) (reply d q .time)
   unfolding reply
   says q =
-      either-way (questionTold d q) (questionChecks d q) (askedOf (viewOf d) q .refusals) (question-codes d q) (question-agree q)
-      (λ pass none. rw (pass-decided (questionChecks d q) (questionTold d q) pass) (inr (none, refl, question-answers q pass)))
+      either-way (questionTold d q) (questionChecks d q) (askedOf (viewOf d) q .refusals) (question-agree q)
+      (λ e none. let pass = passed (questionChecks d q) e in rw (pass-decided (questionChecks d q) (questionTold d q) pass) (inr (none, refl, question-answers q pass)))
       (λ e refused. inl refused)
 
 pub desk-says : DeskSays

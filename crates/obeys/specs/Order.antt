@@ -1,4 +1,5 @@
--- What is in order on every reached desk: its tables, and that a virtual time is one. Assumes nothing.
+-- What is in order on every reached desk, table by table: so that "A free place holds zeros only.", and that nothing stands in a row or a word that no call
+-- puts there. Assumes nothing.
 use mathlib.Core.Path.{_≡_}
 use mathlib.Core.Bool.{true}
 use Prim.Native.Nat.{ℕ, _≤_, _<_}
@@ -10,6 +11,7 @@ use Rattle.desk.specs.declared.Desk.{Desk}
 use Rattle.desk.specs.Desk.{threadsOf, connectionsOf, itemsOf}
 use Rattle.obeys.specs.Reached.{Reached}
 
+-- the three tables with their rows, the word of the channels, and what the rows say of each other
 pub record DeskInOrder (d : Desk) : Type 0 where
   pub threads : Tidy threadPlaces noThread (threadsOf d)
   pub connections : Tidy connectionPlaces noConnection (connectionsOf d)

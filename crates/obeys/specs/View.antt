@@ -19,14 +19,18 @@ use Rattle.desk.specs.Questions.{reply}
 use Rattle.rules.specs.Rules.{Connection, unused, output, input, View, Outcome}
 use Rattle.rules.specs.Runs.{Reply}
 
+-- a row as a connection of the rules: an output, or an input with its mark and the state of each timestamp
 abbrev pub connectionOf : Table Item → Rows.Connection → Connection
 connectionOf items row =
     cond (eqb (row .direction) Numbers.input) (input (row .thread) (row .channel) (row .mark) (state items row)) (output (row .thread) (row .channel))
 
+-- the ticket of the channel's item with the timestamp, wherever in the table it lies
 abbrev pub itemOf : Table Item → ℕ → ℕ → Option ℕ
 itemOf items channel timestamp =
     cond (ltb (placeOf items channel timestamp) itemPlaces) (some (itemAt items (placeOf items channel timestamp) .ticket)) none
 
+-- which threads live and at which virtual times, which channels there are, what each connection's number stands for, and which items lie where: no
+-- place of an item, no word and no row of a free place can be observed
 unfoldable pub viewOf : Desk → View
 viewOf d = record {
   thread = λ thread. cond (isLiving (threadsOf d) thread) (some (threadAt (threadsOf d) thread .time)) none;

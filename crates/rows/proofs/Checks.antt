@@ -6,10 +6,11 @@ use mathlib.Core.Bool.{Bool, true, false, not, _&&_}
 use mathlib.Core.List.{List, [], _∷_}
 use Prim.Native.Nat.{ℕ}
 use lib.Dec.{eqb}
-use borrow.Author.Tests.{eq-eqb, eqb-true, not-true}
+use borrow.Author.Tests.{eqb-true, not-true}
 use Rattle.rows.specs.declared.Answer.{Answer}
-use Rattle.rows.specs.Answers.{Told, answer, accepted, Check, decided, checked, withCode, telling}
-use Rattle.rows.proofs.Laws.{and-left, and-right, bool-cases, true-not-false}
+use Rattle.rows.specs.Answers.{Told, answer, accepted, Check, passes, decided}
+use Rattle.rows.specs.Codes.{checked, withCode, telling}
+use Rattle.rows.proofs.Laws.{and-left, and-right, bool-cases}
 
 -- ---- what is known where all hold
 
@@ -31,6 +32,11 @@ by-code : {A B : Type 0} (same : Bool) → A → B → either same A B
 by-code true here later = here
 by-code false here later = later
 
+pub passed : (checks : List Check) → passes checks ≡ true → Pass checks
+unfolding passes
+passed [] all = tt
+passed (c ∷ checks) all = (and-left (c .holds) (passes checks) all, passed checks (and-right (c .holds) (passes checks) all))
+
 pub held-by : (checks : List Check) → Pass checks → (code : ℕ) → Held checks code
 held-by [] pass code = tt
 held-by (c ∷ checks) pass code = by-code (eqb (c .refused .code) code) (pass .0) (held-by checks (pass .1) code)
@@ -45,15 +51,6 @@ abbrev pub coded : List Check → Bool
 coded [] = true
 coded (c ∷ checks) = coded-one c && coded checks
 
--- an accepted answer comes from checks that all hold
-pub passed : (checks : List Check) (told : Told) → coded checks ≡ true → decided checks told .code ≡ 0 → Pass checks
-unfolding decided
-passed [] told codes zero = tt
-passed (c ∷ checks) told codes zero =
-    bool-cases (c .holds)
-    (λ holds. (holds, passed checks told (and-right (coded-one c) _ codes) (rw holds at zero)))
-    (λ fails. absurd (true-not-false (and-left (coded-one c) _ codes) (ap not (eq-eqb _ 0 (rw fails at zero)))))
-
 pub pass-decided : (checks : List Check) (told : Told) → Pass checks → decided checks told ≡ accepted told
 unfolding decided
 pass-decided [] told pass = refl
@@ -62,7 +59,7 @@ pass-decided (c ∷ checks) told pass = rw (pass .0) (pass-decided checks told (
 -- the codes one after the other, as the code makes them
 unfoldable pub inTurn : ℕ → List Check → ℕ
 inTurn code [] = code
-inTurn code (c ∷ checks) = inTurn (checked code (c .holds) (c .refused .code)) checks
+inTurn code (c ∷ checks) = inTurn (checked code c) checks
 
 -- a refused code stays
 stays : (code : ℕ) (checks : List Check) → eqb code 0 ≡ false → inTurn code checks ≡ code
@@ -70,7 +67,17 @@ unfolding inTurn checked
 stays code [] refused = refl
 stays code (c ∷ checks) refused = rw refused (stays code checks refused)
 
--- they come to the code of 01's answer
+-- they come to 0 where all checks hold, and nowhere else
+pub turned-zero : (checks : List Check) → coded checks ≡ true → eqb (inTurn 0 checks) 0 ≡ passes checks
+unfolding inTurn checked passes
+turned-zero [] codes = refl
+turned-zero (c ∷ checks) codes =
+    let refuses = not-true (eqb (c .refused .code) 0) (and-left (coded-one c) _ codes) in
+    bool-cases (c .holds)
+    (λ holds. rw holds (turned-zero checks (and-right (coded-one c) _ codes)))
+    (λ fails. rw (fails, stays (c .refused .code) checks refuses) refuses)
+
+-- and to the code of 01's answer
 pub in-turn : (checks : List Check) (told : Told) → coded checks ≡ true → inTurn 0 checks ≡ decided checks told .code
 unfolding inTurn checked decided
 in-turn [] told codes = refl

@@ -1,8 +1,7 @@
 -- Document 01, "Calls, and the order of their checks": how a call is answered. Assumes nothing.
-use mathlib.Core.Bool.{Bool, cond}
+use mathlib.Core.Bool.{Bool, true, cond, _&&_}
 use mathlib.Core.List.{List, [], _∷_}
 use Prim.Native.Nat.{ℕ}
-use lib.Dec.{eqb}
 use Rattle.rows.specs.declared.Answer.{Answer}
 
 -- "Each answer is a code, a value and a time."
@@ -33,21 +32,12 @@ pub record Check : Type 0 where
 abbrev pub needs : Bool → Answer → Check
 needs holds refused = record { holds = holds; refused = refused }
 
+-- no refusal is the case
+unfoldable pub passes : List Check → Bool
+passes [] = true
+passes (c ∷ checks) = c .holds && passes checks
+
 -- "Refusals are tested in the order written here.": the first check that fails answers; where none does, the call is accepted
 unfoldable pub decided : List Check → Told → Answer
 decided [] told = accepted told
 decided (c ∷ checks) told = cond (c .holds) (decided checks told) (c .refused)
-
--- ---- how the code comes to that answer: by the codes alone, one check after the other
-
--- one check more: a code that is not 0 stays
-unfoldable pub checked : ℕ → Bool → ℕ → ℕ
-checked code holds refusing = cond (eqb code 0) (cond holds 0 refusing) code
-
--- the answer with this code: what is told where it is 0, and nothing beside the code where it is not
-unfoldable pub withCode : ℕ → Told → Answer
-withCode code told = cond (eqb code 0) (accepted told) (refusal code)
-
--- the refusal that tells more than its code, in the place of the one that does not
-unfoldable pub telling : Answer → Answer → Answer
-telling given refused = cond (eqb (given .code) (refused .code)) refused given

@@ -4,4 +4,5 @@ pub mod States
 pub mod Facts
 pub mod Times
 pub mod Answers
+pub mod Codes
 pub mod Choices

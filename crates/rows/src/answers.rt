@@ -1,11 +1,12 @@
 // How a call is answered: the first check that fails gives the code.
 ghost use mathlib.Core.Path.{_≡_};
-ghost use Rattle.rows.specs.Answers.{checked, tells, telling, withCode};
+ghost use Rattle.rows.specs.Answers.{needs, refusal, tells};
+ghost use Rattle.rows.specs.Codes.{checked, telling, withCode};
 use crate::Answer;
 
 // One check more of a call: its code where it fails, unless an earlier one has failed.
 pub fn needs(code: u32, holds: bool, refusing: u32) -> u32
-    ensures { λ r. ⌜ r ≡ checked code holds refusing ⌝ }
+    ensures { λ r. ⌜ r ≡ checked code (needs holds (refusal refusing)) ⌝ }
 {
     if code != 0 {
         return code;
@@ -35,7 +36,7 @@ impl Answer {
         }
     }
 
-    // The same answer, but for the refusal with the code of this one, which tells more.
+    // This refusal, which tells more than its code, in the place of one with the same code.
     pub fn telling(self, refused: Answer) -> Answer
         ensures { λ r. ⌜ r ≡ telling self refused ⌝ }
     {

@@ -1,6 +1,6 @@
 -- A turn from what the calls promise: its answer, its tickets and its desk. Assumes nothing.
 use Prim.Native.Nat.{ℕ, _+_, _≤_, zero-le}
-use mathlib.Core.Path.{_≡_, refl}
+use mathlib.Core.Path.{_≡_, refl, sym}
 use mathlib.Core.Bool.{Bool, true, false, cond}
 use mathlib.Core.List.{List, []}
 use lib.Dec.{eqb}
@@ -8,17 +8,15 @@ use lib.ListN.{length, take}
 use native.Mathlib.Omega.{arith}
 use Rattle.words.specs.Words.{count, has}
 use Rattle.words.proofs.Laws.{count-le}
-use borrow.Author.Tests.{eqb-true}
-use Rattle.rows.specs.Answers.{Told, Check, decided}
+use Rattle.rows.specs.Answers.{Told, Check, passes, decided}
 use Rattle.rows.proofs.Laws.{bool-cases}
-use Rattle.rows.proofs.Checks.{coded, passed, pass-decided}
+use Rattle.rows.proofs.Checks.{coded, passed, pass-decided, in-turn, turned-zero}
 use Rattle.desk.specs.declared.Desk.{Desk}
 use Rattle.desk.specs.declared.Next.{Next}
 use Rattle.calls.specs.declared.Call as code
 use Rattle.calls.specs.declared.Call.the-variants.{By, Sweep}
 use Rattle.calls.specs.Calls.{Call, asked, sweep}
 use Rattle.desk.specs.Calls.{checks, told, outcome, step, sliceAfter, sliceLeft}
-use Rattle.desk.proofs.Outcome.{codes}
 use Rattle.lines.specs.declared.Line.{Line}
 use Rattle.lines.specs.declared.Line.the-variants.{Asks, Unreadable}
 use Rattle.lines.specs.Lines.{readLine}
@@ -58,9 +56,9 @@ made-turned d (Sweep bound) e s = sweep-turned d (sweep bound slice) e s
 -- of an answer that tells no more where it is accepted; refused, there are none
 accepted-few : (checks : List Check) (told : Told) → coded checks ≡ true → told .value ≤ mostTickets → sweptCount (decided checks told) ≤ mostTickets
 accepted-few checks told codes few =
-    bool-cases (eqb (decided checks told .code) 0)
-    (λ zero. rw (pass-decided checks told (passed checks told codes (eqb-true _ 0 zero))) few)
-    (λ refused. rw refused zero-le)
+    bool-cases (passes checks)
+    (λ all. rw (pass-decided checks told (passed checks all)) few)
+    (λ some. rw (sym (in-turn checks told codes), turned-zero checks codes, some) zero-le)
 
 -- a word has 64 places
 count-few : (w : ℕ) → count w ≤ mostTickets
@@ -68,15 +66,15 @@ unfolding count
 count-few w = count-le (has w) 64
 
 -- a sweep prints no more tickets, if its value is no more
-sweep-few : (d : Desk) (call : Call) → told d call .value ≤ mostTickets → sweptCount (step d call .answer) ≤ mostTickets
+sweep-few : (d : Desk) (call : Call) → coded (checks d call) ≡ true → told d call .value ≤ mostTickets → sweptCount (step d call .answer) ≤ mostTickets
 unfolding step outcome
-sweep-few d call few = accepted-few (checks d call) (told d call) (codes d call) few
+sweep-few d call codes few = accepted-few (checks d call) (told d call) codes few
 
 -- whatever the line, no more tickets are printed for it: a sweep's value is the number of items that leave
 pub tickets-few : (d : Desk) (line : Line) → ticketCount line (turnBy d line .answer) ≤ mostTickets
-unfolding ticketCount turnBy told
+unfolding ticketCount turnBy told checks
 tickets-few d (Asks (By thread deed)) = zero-le
-tickets-few d (Asks (Sweep bound)) = sweep-few d (sweep bound slice) (count-few _)
+tickets-few d (Asks (Sweep bound)) = sweep-few d (sweep bound slice) refl (count-few _)
 tickets-few d Unreadable = zero-le
 
 -- ---- a line that was read, run and answered

@@ -1,5 +1,5 @@
 -- A readable line's call is made on a slice of zeros, and its turn is what `make` promises; an unreadable line's turn is computed. Assumes nothing.
-use Rattle.rows.specs.Answers.{withCode}
+use Rattle.rows.specs.Codes.{withCode}
 use Rattle.session.specs.Turns.{turnBy}
 use Rattle.session.specs.Tickets.{ticketCount}
 use Rattle.session.proofs.Turning.{made-turned}

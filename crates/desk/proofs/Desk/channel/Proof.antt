@@ -3,7 +3,8 @@ use mathlib.Core.Path.{_≡_, refl, ap, _∙_}
 use Prim.Native.Nat.{ℕ}
 use borrow.Author.Needs.{needs}
 use Rattle.rows.proofs.Checks.{inTurn}
-use Rattle.rows.specs.Answers.{tells, withCode}
+use Rattle.rows.specs.Answers.{tells}
+use Rattle.rows.specs.Codes.{withCode}
 use Rattle.desk.specs.declared.Desk.{Desk}
 use Rattle.calls.specs.Calls.{Call, new-channel}
 use Rattle.desk.specs.Calls.{step, checks, effect, told}

@@ -61,7 +61,7 @@ code-of c =
 -- an accepted call names a connection of the table
 connection-below : (c : tie.After-needs5) → c .needs5 .result ≡ 0 → start c .args .connection < 32
 unfolding checks
-connection-below c zero = owned-below (desk-of c) _ _ (facts (desk-of c) (call-of c) (code-of c) zero .held 3)
+connection-below c zero = owned-below (desk-of c) _ _ (facts (desk-of c) (call-of c) refl (code-of c) zero .held 3)
 
 mul-connections : tie.Need-mul-connections
 mul-connections c =

@@ -57,11 +57,11 @@ code-of c =
 -- an accepted call names a connection of the table, and a timestamp
 connection-below : (c : tie.After-needs4) → c .needs4 .result ≡ 0 → start c .args .connection < 32
 unfolding checks
-connection-below c zero = owned-below (desk-of c) _ _ (facts (desk-of c) (call-of c) (code-of c) zero .held 3)
+connection-below c zero = owned-below (desk-of c) _ _ (facts (desk-of c) (call-of c) refl (code-of c) zero .held 3)
 
 timestamp-below : (c : tie.After-needs4) → c .needs4 .result ≡ 0 → start c .args .timestamp < never
 unfolding checks
-timestamp-below c zero = ltb-true _ _ (facts (desk-of c) (call-of c) (code-of c) zero .held 5)
+timestamp-below c zero = ltb-true _ _ (facts (desk-of c) (call-of c) refl (code-of c) zero .held 5)
 
 add-raised : tie.Need-add-raised
 add-raised c =

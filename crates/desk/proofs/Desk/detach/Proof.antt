@@ -51,7 +51,7 @@ array-set-from-connections : tie.Need-array-set-from-connections
 unfolding checks
 array-set-from-connections c =
     let checked = c .before .before in
-    owned-below (desk-of checked) _ _ (facts (desk-of checked) (call-of checked) (code-of checked) (c .if1 .taken) .held 3)
+    owned-below (desk-of checked) _ _ (facts (desk-of checked) (call-of checked) refl (code-of checked) (c .if1 .taken) .held 3)
 
 returns : tie.Need-returns
 unfolding step checks told effect

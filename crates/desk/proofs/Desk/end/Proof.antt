@@ -33,7 +33,7 @@ unfolding checks
 element-set-from-self c =
     let accepting = c .before .before in
     let checked = accepting .before .before in
-    used-inside (desk-of checked .living) (facts (desk-of checked) (call-of checked) (code-of checked) (accepting .if1 .taken) .held 1)
+    used-inside (desk-of checked .living) (facts (desk-of checked) (call-of checked) refl (code-of checked) (accepting .if1 .taken) .held 1)
 
 returns : tie.Need-returns
 unfolding step effect ended

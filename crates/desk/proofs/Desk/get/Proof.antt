@@ -8,7 +8,7 @@ use borrow.Author.Needs.{needs}
 use Rattle.rows.specs.declared.Answer.{Answer}
 use Rattle.rows.specs.declared.Found.{Found}
 use Rattle.rows.specs.declared.Found.the-variants.{At, Nothing}
-use Rattle.rows.specs.Answers.{withCode}
+use Rattle.rows.specs.Codes.{withCode}
 use Rattle.rows.proofs.Checks.{inTurn}
 use Rattle.tables.specs.Tables.{connectionAt, owns}
 use Rattle.leaving.proofs.Rows.{length-mapped}
@@ -68,7 +68,7 @@ code-of c =
 -- an accepted call names a connection of the table
 connection-below : (c : tie.After-needs5) → c .needs5 .result ≡ 0 → start c .args .connection < 32
 unfolding checks
-connection-below c zero = owned-below (desk-of c) _ _ (facts (desk-of c) (call-of c) (code-of c) zero .held 3)
+connection-below c zero = owned-below (desk-of c) _ _ (facts (desk-of c) (call-of c) refl (code-of c) zero .held 3)
 
 -- what is told is what the search found
 told-by : (c : tie.After-needs5) (found : Found) → c .before .before .before .before .before .before .before .before .before .before .seek .result ≡ found → {answer : Answer} → answer ≡ withCode (c .needs5 .result) (foundTold found)

@@ -1,7 +1,8 @@
 -- No check can refuse. The value is the number of places in the word, by its contract. Assumes nothing.
 use mathlib.Core.Path.{_∙_}
 use borrow.Author.Needs.{needs}
-use Rattle.rows.specs.Answers.{decided, withCode}
+use Rattle.rows.specs.Answers.{decided}
+use Rattle.rows.specs.Codes.{withCode}
 use Rattle.desk.specs.Questions.{reply, questionChecks, questionTold}
 use Rattle.desk.proofs.Desk.items_present.Statement.{statement}
 use Rattle.desk.proofs.Desk.items_present.Tie as tie

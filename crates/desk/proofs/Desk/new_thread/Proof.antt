@@ -39,7 +39,7 @@ unfolding checks
 array-set-from-threads c =
     let checked = c .before .before in
     rw (checked .before .before .before .before .lowest-free .ensures)
-    (ltb-true _ _ (facts (desk-of checked) (call-of checked) (code-of checked) (c .if1 .taken) .held 9))
+    (ltb-true _ _ (facts (desk-of checked) (call-of checked) refl (code-of checked) (c .if1 .taken) .held 9))
 
 returns : tie.Need-returns
 unfolding step checks told effect adopted

@@ -67,7 +67,7 @@ place-below : (c : tie.After-needs7) → c .needs7 .result ≡ 0 → free-at c .
 unfolding checks
 place-below c zero =
     rw (free-at c .lowest-free .ensures)
-    (fewer-free (desk-of c .present) (ltb-true _ _ (facts (desk-of c) (call-of c) (code-of c) zero .held 8)))
+    (fewer-free (desk-of c .present) (ltb-true _ _ (facts (desk-of c) (call-of c) refl (code-of c) zero .held 8)))
 
 array-set-from-items : tie.Need-array-set-from-items
 array-set-from-items c = place-below (c .before .before) (c .if1 .taken)

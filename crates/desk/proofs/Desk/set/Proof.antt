@@ -31,7 +31,7 @@ array-set-from-threads : tie.Need-array-set-from-threads
 unfolding checks
 array-set-from-threads c =
     let checked = c .before .before in
-    used-inside (desk-of checked .living) (facts (desk-of checked) (call-of checked) (code-of checked) (c .if1 .taken) .held 1)
+    used-inside (desk-of checked .living) (facts (desk-of checked) (call-of checked) refl (code-of checked) (c .if1 .taken) .held 1)
 
 returns : tie.Need-returns
 unfolding step checks told effect

@@ -6,7 +6,8 @@ use Prim.Native.Nat.{ℕ}
 use denote.Ref.{now}
 use Rattle.words.specs.Words.{count}
 use Rattle.rows.specs.declared.Answer.{Answer}
-use Rattle.rows.specs.Answers.{tells, answer, Check, withCode, telling}
+use Rattle.rows.specs.Answers.{tells, answer, Check}
+use Rattle.rows.specs.Codes.{checked, withCode, telling}
 use Rattle.rows.proofs.Checks.{inTurn}
 use Rattle.leaving.specs.Leaving.{itemsBelow}
 use Rattle.desk.specs.declared.Desk.{Desk}
@@ -27,7 +28,7 @@ abbrev asked : tie.After-needs → List Check
 asked c = slice-long (desk-of c) (start c .args .bound) (now (start c .args .slice)) ∷ []
 
 code-of : (c : tie.After-needs) → c .needs .result ≡ inTurn 0 (asked c)
-unfolding inTurn
+unfolding inTurn checked
 code-of c = simp (c .needs .ensures, c .before .count .ensures, c .before .before .items-below .ensures)
 
 -- the answer is that of the check: 12 tells the number of items to hand back

@@ -1,5 +1,5 @@
 -- The one check is 1, and the time is the visible time, by the contracts of both. Assumes nothing.
-use mathlib.Core.Path.{_≡_, refl, _∙_}
+use mathlib.Core.Path.{refl, _∙_}
 use borrow.Author.Needs.{needs}
 use Rattle.calls.specs.Questions.{visible-time}
 use Rattle.rows.proofs.Checks.{inTurn}

@@ -1,7 +1,8 @@
 -- No check can refuse. The time is the weak bound, by its contract. Assumes nothing.
 use mathlib.Core.Path.{_∙_}
 use borrow.Author.Needs.{needs}
-use Rattle.rows.specs.Answers.{decided, withCode}
+use Rattle.rows.specs.Answers.{decided}
+use Rattle.rows.specs.Codes.{withCode}
 use Rattle.desk.specs.Questions.{reply, questionChecks, questionTold}
 use Rattle.desk.proofs.Desk.weak_bound.Statement.{statement}
 use Rattle.desk.proofs.Desk.weak_bound.Tie as tie

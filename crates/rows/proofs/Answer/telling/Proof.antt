@@ -1,6 +1,6 @@
 -- Each way out is one branch of `telling`, by whether the two codes are equal. Assumes nothing.
 use borrow.Author.Tests.{eq-eqb, ne-eqb}
-use Rattle.rows.specs.Answers.{telling}
+use Rattle.rows.specs.Codes.{telling}
 use Rattle.rows.proofs.Answer.telling.Statement.{statement}
 use Rattle.rows.proofs.Answer.telling.Tie as tie
 

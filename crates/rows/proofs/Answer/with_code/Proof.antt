@@ -1,6 +1,6 @@
 -- Each way out is one branch of `withCode`, by whether the code is 0. Assumes nothing.
 use borrow.Author.Tests.{eq-eqb, ne-eqb}
-use Rattle.rows.specs.Answers.{withCode}
+use Rattle.rows.specs.Codes.{withCode}
 use Rattle.rows.proofs.Answer.with_code.Statement.{statement}
 use Rattle.rows.proofs.Answer.with_code.Tie as tie
 

@@ -1,6 +1,6 @@
 -- Each way out is one branch of `checked`: the code is not 0, or it is and the check holds, or it does not. Assumes nothing.
 use borrow.Author.Tests.{eq-eqb, ne-eqb}
-use Rattle.rows.specs.Answers.{checked}
+use Rattle.rows.specs.Codes.{checked}
 use Rattle.rows.proofs.answers.needs.Statement.{statement}
 use Rattle.rows.proofs.answers.needs.Tie as tie
 
