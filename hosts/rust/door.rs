@@ -30,9 +30,9 @@ fn perform(desk: &mut Desk, name: &str, numbers: &[u64]) -> Result<(u64, u32), R
         ("detach", &[thread, connection]) => desk.detach(thread, connection).map(nothing),
         ("end", &[thread]) => desk.end(thread).map(nothing),
         ("set", &[thread, time]) => desk.set(thread, time).map(nothing),
-        ("put", &[thread, connection, timestamp, _]) => {
-            desk.put(thread, connection, timestamp, numbers[3]).map(nothing)
-        }
+        ("put", &[thread, connection, timestamp, _]) => desk
+            .put(thread, connection, timestamp, numbers[3])
+            .map(nothing),
         ("get_earliest", &[thread, connection]) => desk.get_earliest(thread, connection).map(got),
         ("get_latest", &[thread, connection]) => desk.get_latest(thread, connection).map(got),
         ("get_named", &[thread, connection, timestamp]) => {
@@ -41,15 +41,15 @@ fn perform(desk: &mut Desk, name: &str, numbers: &[u64]) -> Result<(u64, u32), R
         ("consume", &[thread, connection, timestamp]) => {
             desk.consume(thread, connection, timestamp).map(nothing)
         }
-        ("consume_until", &[thread, connection, timestamp]) => {
-            desk.consume_until(thread, connection, timestamp).map(nothing)
-        }
+        ("consume_until", &[thread, connection, timestamp]) => desk
+            .consume_until(thread, connection, timestamp)
+            .map(nothing),
         ("visible_time", &[thread]) => desk.visible_time(thread).map(|time| (0, time)),
         ("weak_bound", &[]) => Ok((0, desk.weak_bound())),
         ("strong_bound", &[]) => Ok((0, desk.strong_bound())),
-        ("state", &[connection, timestamp]) => {
-            desk.state(connection, timestamp).map(|state| (state as u64, 0))
-        }
+        ("state", &[connection, timestamp]) => desk
+            .state(connection, timestamp)
+            .map(|state| (state as u64, 0)),
         ("items_present", &[]) => Ok((desk.items_present() as u64, 0)),
         _ => panic!("there is no call {name} of {} numbers", numbers.len()),
     }
