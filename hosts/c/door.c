@@ -115,9 +115,11 @@ int main(void)
             desk = &desks[line.numbers[0]];
             printf("0 0 0");
         } else if (strcmp(line.text, "fresh") == 0) {
+            needs_numbers(&line, 0);
             *desk = desk_fresh();
             printf("0 0 0");
         } else if (strcmp(line.text, "bytes") == 0) {
+            needs_numbers(&line, 0);
             print_bytes(desk);
         } else {
             make_call(desk, &line);
