@@ -93,9 +93,11 @@ def constants_of(path):
     """The constants of a file, by their paths: those of a type, and those of the module."""
     crate, *modules = path.relative_to(ROOT / "crates").with_suffix("").parts
     module = "::".join([crate, *(name for name in modules if name not in ("src", "lib", "main"))])
-    for name, declared in re.findall(r"^impl (\w+) \{(.*?)^\}", text(path), re.M | re.S):
-        yield from ((f"{name}::{constant}", value) for constant, value in re.findall(r"^    pub const (\w+): \w+ = (.+);$", declared, re.M))
-    yield from ((f"{module}::{constant}", value) for constant, value in re.findall(r"^pub const (\w+): \w+ = (.+);$", text(path), re.M))
+    of_types = re.findall(r"^impl (\w+) \{(.*?)^\}", text(path), re.M | re.S)
+    of_module = re.sub(r"^ .*", "", text(path), flags=re.M)
+    for holder, declared in [*of_types, (module, of_module)]:
+        for name, value in re.findall(r"^ *pub const (\w+): \w+ = (.+);$", declared, re.M):
+            yield f"{holder}::{name}", value
 
 
 def only(what, name, declared):
@@ -127,14 +129,14 @@ class Crossing:
         of_the_desk = "".join(re.findall(r"^impl Desk \{.*?^\}", self.sources.code, re.M | re.S))
         found = re.findall(r"pub const (\w+): u32 = (.+);", of_the_desk)
         if not found or len(found) != of_the_desk.count("pub const "):
-            raise Wrong("the constants of Desk must be of the form 'pub const NAME: u32 = NUMBER;', which is read here, and at least one")
+            raise Wrong("Desk must have constants, all of the form 'pub const NAME: u32 = NUMBER;', which is read here")
         return [(name, self.sources.number(value)) for name, value in found]
 
     def exported(self):
         """The functions of the library, in the order in which the header has them."""
         found = re.findall(r'pub extern "C" fn (\w+)\(([^)]*)\) -> (\w+)', self.sources.code)
         if not found or len(found) != self.sources.code.count('pub extern "C" fn '):
-            raise Wrong("crates/lent must export functions of the form 'NAME(NAME: TYPE, ..) -> TYPE', which is read here, and at least one")
+            raise Wrong("crates/lent must export functions, all of the form 'NAME(NAME: TYPE, ..) -> TYPE', which is read here")
         parted = re.compile(r"(\w+): ([^,\n]+)")
         functions = [Function(name, tuple(parted.findall(parameters)), result) for name, parameters, result in found]
         header = text("include/desk.h")
