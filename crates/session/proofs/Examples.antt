@@ -128,7 +128,7 @@ after-overlong : printedInParts start ((zeros 198 ++ bytes "\nc 0\n") ∷ []) �
 unfolding sessions
 after-overlong = refl
 
--- ---- how much of a part is used: a newline waits where the longest answer might not fit
+-- ---- how much of a part is used: a newline waits where the room for an answer is not left
 
 used-with-room : usedOf start (bytes "c 0\n") answerRoom ≡ 4
 unfolding sessions

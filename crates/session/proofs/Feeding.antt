@@ -126,7 +126,7 @@ module _ (first : Reader) (part before : List ℕ) (r : Reader) (i at : ℕ) (ou
         let none-long : length (printedBy r byte) ≡ 0 = ap length none in
         rw joins at (fed-byte at out (rw other) (omega arith) (fed .room) stays)
 
-    -- a newline where the longest answer fits ends the line: its turn is taken, and its answer stands in out
+    -- a newline where the room for an answer is left ends the line: its turn is taken, and its answer stands in out
     pub fed-ends : (line : List ℕ) (desk : Desk) (end : ℕ) (after : List ℕ)
         → line ≡ lineSoFar r
         → eqb byte newline ≡ true
@@ -154,7 +154,7 @@ module _ (first : Reader) (part before : List ℕ) (r : Reader) (i at : ℕ) (ou
       let none = rw (drop-of-length-le part all) at (fed .used) in
       omega arith
 
-  -- at a newline where the longest answer might not fit, the bytes before it are used
+  -- at a newline where the room for an answer is not left, the bytes before it are used
   pub fed-waits : (byte : ℕ) → i < length part → byte ≡ getD part i 0 → eqb byte newline ≡ true → length out - at < answerRoom → i ≡ usedOf first part (length before)
   fed-waits byte more is ended short =
       let scarce : length before - at < answerRoom = rw fed-length at short in
@@ -187,7 +187,7 @@ kept-line line held number is long = rw is (by-test (ltb held lineKept) refl)
 
 -- ---- the end of the input
 
--- where the longest answer fits, a newline alone is used, and prints what the end of the input prints for a line that lacks it
+-- where there is the room for an answer, a newline alone is used, and prints what the end of the input prints for a line that lacks it
 pub finished : (r : Reader) (room : ℕ)
     → (r .held ≡ 0 → ⊥)
     → answerRoom ≤ room

@@ -22,7 +22,7 @@ used-le (byte ∷ bytes) r room = go (waits byte room) (used-le bytes (readByte 
     go true le = omega arith
     go false le = omega arith
 
--- with room for the longest answer a part that is not empty is not used in vain: a caller who feeds the rest again comes to its end
+-- with the room for an answer a part that is not empty is not used in vain: a caller who feeds the rest again comes to its end
 pub used-some : (byte : ℕ) (bytes : List ℕ) (r : Reader) (room : ℕ) → answerRoom ≤ room → 0 < usedOf r (byte ∷ bytes) room
 unfolding usedOf
 used-some byte bytes r room enough = rw (le-ltb room answerRoom enough, and-comm (eqb byte newline) false) (omega arith)

@@ -79,7 +79,7 @@ tickets-few d Unreadable = zero-le
 
 -- ---- a line that was read, run and answered
 
--- from what reading it, running its call, counting its tickets and writing its answer promise, with room for the longest answer:
+-- from what reading it, running its call, counting its tickets and writing its answer promise, with the room for an answer:
 -- the next desk, the place behind the answer and the bytes of out are those of its turn
 pub turn-written : (d : Desk) (line : List ℕ) (said : Line) (next : Next) (tickets : List ℕ) (number : ℕ) (out : List ℕ) (at : ℕ) (after : List ℕ) (end : ℕ)
     → said ≡ readLine line

@@ -54,11 +54,11 @@ printedAtEnd r = cond (eqb (r .held) 0) [] (printed (turn (r .desk) (lineSoFar r
 
 -- ---- one part of the input, as far as the output has room
 
--- at the end, nothing is written where the longest answer might not fit
+-- at the end, nothing is written where the room for an answer is not left
 abbrev pub writtenAtEnd : Reader → ℕ → List ℕ
 writtenAtEnd r room = cond (ltb room answerRoom) [] (printedAtEnd r)
 
--- how many bytes are used of a part, with this much room for the output: a newline waits where the longest answer might not fit
+-- how many bytes are used of a part, with this much room for the output: a newline waits where the room for an answer is not left
 abbrev pub waits : ℕ → ℕ → Bool
 waits byte room = eqb byte newline && ltb room answerRoom
 

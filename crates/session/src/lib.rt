@@ -90,7 +90,7 @@ pub fn started() -> Reader
     }
 }
 
-// Reads a part of the input and writes the answers to the front of out. It stops at a newline where the longest answer might not fit:
+// Reads a part of the input and writes the answers to the front of out. It stops at a newline where the room for an answer is not left:
 // what is left of the part is to be fed again, with out written away.
 pub fn feed(reader: Reader, part: &[u8], out: &mut [u8]) -> Fed
     ensures { λ r. ⌜ (
@@ -145,7 +145,7 @@ pub fn feed(reader: Reader, part: &[u8], out: &mut [u8]) -> Fed
     }
 }
 
-// The end of the input: answers a last line that lacks its newline. Where the longest answer might not fit in out, nothing is written.
+// The end of the input: answers a last line that lacks its newline. Where out lacks the room for an answer, nothing is written.
 pub fn finish(reader: Reader, out: &mut [u8]) -> usize
     ensures { λ r. ⌜ (
         let text = writtenAtEnd reader (length (now (out .entry))) in

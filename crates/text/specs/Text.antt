@@ -33,6 +33,7 @@ unfoldable pub fieldsText : List ℕ → List ℕ
 fieldsText [] = []
 fieldsText (v ∷ rest) = fieldText v ++ fieldsText rest
 
+-- "a newline after each such line"
 abbrev pub newline : ℕ
 newline = code "\n"
 
@@ -44,19 +45,20 @@ answerText code value time tickets = decimalText code ++ fieldText value ++ fiel
 abbrev pub mostTickets : ℕ
 mostTickets = 64
 
--- the room that is wanted, in places: for a field a space and a number of the most digits; for a line with so many tickets the code, fields
--- for the value, the time and each ticket, and the newline
+-- the room for a field, in places: a space and a number of the most digits
 abbrev pub fieldRoom : ℕ
 fieldRoom = 1 + mostDigits
 
+-- the room for a line with so many tickets: the code, fields for the value, the time and each ticket, and the newline
 abbrev pub lineRoom : ℕ → ℕ
 lineRoom count = mostDigits + fieldRoom * (2 + count) + 1
 
--- the room for any answer, 1407 places. The law `answer-length` says that no line is longer than 1387, since code and time have 32 bits.
+-- the room for an answer, 1407 places: enough for every one. The law `answer-length` says that no line is longer than 1387, since code and time
+-- have 32 bits.
 abbrev pub answerRoom : ℕ
 answerRoom = lineRoom mostTickets
 
--- whether a line is written: there is room for any from `at` on, and there are `count` tickets, no more than a sweep can hand back
+-- whether a line is written: from `at` on there is the room for an answer, and there are `count` tickets, no more than a sweep can hand back
 unfoldable pub hasRoom : ℕ → ℕ → ℕ → ℕ → Bool
 hasRoom at places count held = leb (at + answerRoom) places && leb count mostTickets && leb count held
 

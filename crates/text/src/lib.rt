@@ -101,7 +101,7 @@ fn write_line(
     end + 1
 }
 
-// Whether there is room for any line from `at` on, and whether the tickets are there. No sum here can wrap.
+// Whether from `at` on there is the room for an answer, and whether the tickets are there. No sum here can wrap.
 fn has_room(at: usize, places: usize, count: usize, held: usize) -> bool
     ensures { λ r. ⌜ r ≡ hasRoom at places count held ⌝ }
 {

@@ -1,4 +1,4 @@
--- Where there is room for the longest line, the line is written and no longer than that, so the rest of the buffer is as it was; elsewhere nothing
+-- Where there is the room for an answer, the line is written and no longer than that, so the rest of the buffer is as it was; elsewhere nothing
 -- is. Assumes nothing.
 use mathlib.Core.Path.{refl, sym, _∙_}
 use native.Mathlib.Omega.{arith}
