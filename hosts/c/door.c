@@ -13,9 +13,10 @@ enum { DESKS = 8, LONGEST_SLICE = 70, LONGEST_LINE = 250 };
 /* What a slice holds before a sweep: this and the number of the place. */
 #define UNTOUCHED UINT64_C(7000000000000000000)
 
-/* A name and its numbers, the length of a slice among them. Those that the line lacks are 0. */
+/* A name and its numbers, the length of a slice among them. */
 struct line {
     char text[LONGEST_LINE];
+    size_t count;
     uint64_t numbers[MOST_NUMBERS + 1];
 };
 
@@ -26,9 +27,22 @@ static bool next_line(struct line *line)
     char *rest = line->text + strcspn(line->text, " \n");
     if (*rest != '\0')
         *rest++ = '\0';
-    for (size_t each = 0; each <= MOST_NUMBERS; each++)
-        line->numbers[each] = strtoull(rest, &rest, 10);
+    for (line->count = 0; *rest != '\0' && *rest != '\n'; line->count++) {
+        char *number = rest;
+        assert(line->count <= MOST_NUMBERS);
+        line->numbers[line->count] = strtoull(number, &rest, 10);
+        assert(rest != number);
+    }
     return true;
+}
+
+/* A script is written by a program: a line with fewer or more numbers than its call takes is an error of that program. */
+static void needs_numbers(const struct line *line, size_t count)
+{
+    if (line->count == count)
+        return;
+    fprintf(stderr, "door-c: %s takes %zu numbers and has %zu\n", line->text, count, line->count);
+    exit(2);
 }
 
 static size_t call_of(const char *name)
@@ -73,6 +87,7 @@ static void make_call(Desk *desk, struct line *line)
     if (into != NULL)
         *into = '\0';
     size_t call = call_of(line->text);
+    needs_numbers(line, calls[call].numbers + (into != NULL ? 1 : 0));
     if (calls[call].of_slice)
         sweep(desk, call, line, into != NULL);
     else
@@ -95,13 +110,16 @@ int main(void)
     struct line line;
     while (next_line(&line)) {
         if (strcmp(line.text, "desk") == 0) {
+            needs_numbers(&line, 1);
             assert(line.numbers[0] < DESKS);
             desk = &desks[line.numbers[0]];
             printf("0 0 0");
         } else if (strcmp(line.text, "fresh") == 0) {
+            needs_numbers(&line, 0);
             *desk = desk_fresh();
             printf("0 0 0");
         } else if (strcmp(line.text, "bytes") == 0) {
+            needs_numbers(&line, 0);
             print_bytes(desk);
         } else {
             make_call(desk, &line);

@@ -12,36 +12,46 @@ const DESKS: usize = 8;
 /// What a slice holds before a sweep: this and the number of the place.
 const UNTOUCHED: u64 = 7_000_000_000_000_000_000;
 
-/// The value and the time of an accepted call.
+/// The value and the time of an accepted call. A script is written by a program: a line with other
+/// numbers than its call takes is an error of that program.
 fn perform(desk: &mut Desk, name: &str, numbers: &[u64]) -> Result<(u64, u32), Refusal> {
-    let number = |index: usize| numbers.get(index).map_or(0, |number| *number as u32);
-    let (first, second, third) = (number(0), number(1), number(2));
     let nothing = |()| (0, 0);
     let created = |number: u32| (number.into(), 0);
     let got = |got: desk::Got| (got.ticket, got.timestamp);
-    match name {
-        "channel" => desk.channel(first).map(created),
-        "new_thread" => desk.new_thread(first, second).map(created),
-        "attach_input" => {
-            let attached = desk.attach_input(first, second)?;
+    let small: Vec<u32> = numbers.iter().map(|number| *number as u32).collect();
+    match (name, &small[..]) {
+        ("channel", &[thread]) => desk.channel(thread).map(created),
+        ("new_thread", &[thread, time]) => desk.new_thread(thread, time).map(created),
+        ("attach_input", &[thread, channel]) => {
+            let attached = desk.attach_input(thread, channel)?;
             Ok((attached.connection.into(), attached.mark))
         }
-        "attach_output" => desk.attach_output(first, second).map(created),
-        "detach" => desk.detach(first, second).map(nothing),
-        "end" => desk.end(first).map(nothing),
-        "set" => desk.set(first, second).map(nothing),
-        "put" => desk.put(first, second, third, numbers[3]).map(nothing),
-        "get_earliest" => desk.get_earliest(first, second).map(got),
-        "get_latest" => desk.get_latest(first, second).map(got),
-        "get_named" => desk.get_named(first, second, third).map(got),
-        "consume" => desk.consume(first, second, third).map(nothing),
-        "consume_until" => desk.consume_until(first, second, third).map(nothing),
-        "visible_time" => desk.visible_time(first).map(|time| (0, time)),
-        "weak_bound" => Ok((0, desk.weak_bound())),
-        "strong_bound" => Ok((0, desk.strong_bound())),
-        "state" => desk.state(first, second).map(|state| (state as u64, 0)),
-        "items_present" => Ok((desk.items_present() as u64, 0)),
-        _ => panic!("there is no call {name}"),
+        ("attach_output", &[thread, channel]) => desk.attach_output(thread, channel).map(created),
+        ("detach", &[thread, connection]) => desk.detach(thread, connection).map(nothing),
+        ("end", &[thread]) => desk.end(thread).map(nothing),
+        ("set", &[thread, time]) => desk.set(thread, time).map(nothing),
+        ("put", &[thread, connection, timestamp, _]) => desk
+            .put(thread, connection, timestamp, numbers[3])
+            .map(nothing),
+        ("get_earliest", &[thread, connection]) => desk.get_earliest(thread, connection).map(got),
+        ("get_latest", &[thread, connection]) => desk.get_latest(thread, connection).map(got),
+        ("get_named", &[thread, connection, timestamp]) => {
+            desk.get_named(thread, connection, timestamp).map(got)
+        }
+        ("consume", &[thread, connection, timestamp]) => {
+            desk.consume(thread, connection, timestamp).map(nothing)
+        }
+        ("consume_until", &[thread, connection, timestamp]) => desk
+            .consume_until(thread, connection, timestamp)
+            .map(nothing),
+        ("visible_time", &[thread]) => desk.visible_time(thread).map(|time| (0, time)),
+        ("weak_bound", &[]) => Ok((0, desk.weak_bound())),
+        ("strong_bound", &[]) => Ok((0, desk.strong_bound())),
+        ("state", &[connection, timestamp]) => desk
+            .state(connection, timestamp)
+            .map(|state| (state as u64, 0)),
+        ("items_present", &[]) => Ok((desk.items_present() as u64, 0)),
+        _ => panic!("there is no call {name} of {} numbers", numbers.len()),
     }
 }
 
@@ -96,21 +106,23 @@ fn answer(desks: &mut [Desk], current: &mut usize, line: &str, output: &mut Stri
     let name = words.next().expect("a line has a name");
     let numbers: Vec<u64> = words.map(|word| word.parse().expect("a number")).collect();
     let desk = &mut desks[*current];
-    match name {
-        "desk" => {
-            *current = numbers[0] as usize;
+    match (name, &numbers[..]) {
+        ("desk", &[number]) => {
+            *current = number as usize;
             tell(Ok((0, 0)), output);
         }
-        "fresh" => {
+        ("fresh", &[]) => {
             *desk = Desk::fresh();
             tell(Ok((0, 0)), output);
         }
-        "bytes" => tell_bytes(&desk.raw, output),
-        "weak_sweep" => sweep(desk.weak_sweep(), output),
-        "strong_sweep" => sweep(desk.strong_sweep(), output),
-        "weak_sweep_into" => sweep_into(numbers[0], |slice| desk.weak_sweep_into(slice), output),
-        "strong_sweep_into" => {
-            sweep_into(numbers[0], |slice| desk.strong_sweep_into(slice), output)
+        ("bytes", &[]) => tell_bytes(&desk.raw, output),
+        ("weak_sweep", &[]) => sweep(desk.weak_sweep(), output),
+        ("strong_sweep", &[]) => sweep(desk.strong_sweep(), output),
+        ("weak_sweep_into", &[length]) => {
+            sweep_into(length, |slice| desk.weak_sweep_into(slice), output)
+        }
+        ("strong_sweep_into", &[length]) => {
+            sweep_into(length, |slice| desk.strong_sweep_into(slice), output)
         }
         _ => tell(perform(desk, name, &numbers), output),
     }

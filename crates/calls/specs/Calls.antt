@@ -8,7 +8,7 @@ use Rattle.calls.specs.declared.Deed.{Deed}
 use Rattle.calls.specs.declared.Deed.the-variants.{Channel, NewThread, AttachInput, AttachOutput, Detach, End, Set, Put, Get, Consume, ConsumeUntil}
 use Rattle.calls.specs.declared.Bound.{Bound}
 use Rattle.calls.specs.declared.Bound.the-variants.{Weak, Strong}
-use Rattle.calls.specs.declared.Call as code
+use Rattle.calls.specs.declared.Call as InCode
 use Rattle.calls.specs.declared.Call.the-variants.{By, Sweep}
 
 -- a call is a thread's deed, or a sweep, which names no thread and is lent a slice
@@ -16,10 +16,10 @@ pub data Call : Type 0 where
   by : (thread : ℕ) (deed : Deed) → Call
   sweep : (bound : Bound) (slice : List ℕ) → Call
 
--- the call that the code makes, with the slice that it is lent beside it: a thread's deed uses none
-abbrev pub asked : code.Call → List ℕ → Call
-asked (By thread deed) slice = by thread deed
-asked (Sweep bound) slice = sweep bound slice
+-- a call of the code, with the slice that it is lent beside it: a thread's deed uses none
+abbrev pub withSlice : InCode.Call → List ℕ → Call
+withSlice (By thread deed) slice = by thread deed
+withSlice (Sweep bound) slice = sweep bound slice
 
 -- ---- the calls under the names of 01's table, with their numbers in its order; its "channel" is `new-channel` here and its "set" is `set-time`
 

@@ -11,7 +11,7 @@ use Rattle.rows.specs.declared.Item.{Item}
 use Rattle.calls.specs.declared.Bound.{Bound}
 use Rattle.calls.specs.declared.Bound.the-variants.{Weak, Strong}
 use Rattle.calls.specs.declared.Deed.{Deed}
-use Rattle.calls.specs.declared.Call as code
+use Rattle.calls.specs.declared.Call as InCode
 use Rattle.calls.specs.declared.Call.the-variants.{By, Sweep}
 use Rattle.calls.specs.declared.Deed.the-variants.{Channel, NewThread, AttachInput, AttachOutput, Detach, End, Set, Put, Get, Consume, ConsumeUntil}
 use Rattle.calls.specs.declared.Which.{Which}
@@ -285,9 +285,9 @@ sliceAfter d (by thread deed) = []
 sliceAfter d (sweep bound slice) = handedBack (d .items) (itemsBelow (itemsOf d) (boundOf d bound)) slice
 
 -- a slice that is lent beside any call, afterwards: only a sweep hands back in it
-abbrev pub sliceLeft : Desk → code.Call → List ℕ → List ℕ
-sliceLeft d (By thread deed) slice = slice
-sliceLeft d (Sweep bound) slice = sliceAfter d (sweep bound slice)
+abbrev pub sliceAfterMaking : Desk → InCode.Call → List ℕ → List ℕ
+sliceAfterMaking d (By thread deed) slice = slice
+sliceAfterMaking d (Sweep bound) slice = sliceAfter d (sweep bound slice)
 
 -- the desk after some calls
 unfoldable pub after : Desk → List Call → Desk

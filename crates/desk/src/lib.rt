@@ -7,8 +7,11 @@ ghost use Rattle.desk.specs.Desk.{fresh};
 ghost use Rattle.desk.specs.Times.{visibleTime, weakBound, strongBound};
 use rows::Answer;
 use rows::Connection;
+use rows::Connections;
 use rows::Item;
+use rows::Items;
 use rows::Thread;
+use rows::Threads;
 use rows::times::smaller;
 use tables::places::in_use;
 use tables::places::thread_at;
@@ -28,12 +31,12 @@ mod threads;
 #[repr(C)]
 pub struct Desk {
     pub living: u64,
-    pub threads: [Thread; 16],
+    pub threads: Threads,
     pub channels: u64,
     pub attached: u64,
-    pub connections: [Connection; 32],
+    pub connections: Connections,
     pub present: u64,
-    pub items: [Item; 64],
+    pub items: Items,
 }
 
 // The answer to a call, and the desk after it.
@@ -54,25 +57,25 @@ fn is_owned(attached: u64, connection: u32, row: Connection, thread: u32) -> boo
 }
 
 impl Desk {
-    pub const NEVER: u32 = 4294967295;
+    pub const NEVER: u32 = rows::times::NEVER;
 
     pub const LARGEST_TIMESTAMP: u32 = 4294967294;
 
-    pub const THREADS: u32 = 16;
+    pub const THREADS: u32 = Thread::PLACES;
 
     pub const CHANNELS: u32 = 8;
 
-    pub const CONNECTIONS: u32 = 32;
+    pub const CONNECTIONS: u32 = Connection::PLACES;
 
-    pub const ITEMS: u32 = 64;
+    pub const ITEMS: u32 = Item::PLACES;
 
     // A fresh desk has thread 0 with virtual time 0 and nothing else.
     pub fn fresh() -> Desk
         ensures { λ r. ⌜ r ≡ fresh ⌝ }
     {
-        let threads = [Thread::NONE; 16];
-        let connections = [Connection::NONE; 32];
-        let items = [Item::NONE; 64];
+        let threads = [Thread::NONE; Thread::PLACES as usize];
+        let connections = [Connection::NONE; Connection::PLACES as usize];
+        let items = [Item::NONE; Item::PLACES as usize];
         Desk {
             living: 1,
             threads,

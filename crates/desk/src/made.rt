@@ -1,7 +1,7 @@
 // Any call, made by one function: whoever has a call as data goes through it.
 ghost use mathlib.Core.Path.{_≡_};
-ghost use Rattle.calls.specs.Calls.{asked, by};
-ghost use Rattle.desk.specs.Calls.{sliceLeft, step};
+ghost use Rattle.calls.specs.Calls.{by, withSlice};
+ghost use Rattle.desk.specs.Calls.{sliceAfterMaking, step};
 use crate::Desk;
 use crate::Next;
 use calls::Bound;
@@ -11,7 +11,7 @@ use calls::Deed;
 impl Desk {
     // A sweep hands its tickets back in the slice; no deed touches it.
     pub fn make(self, call: Call, slice: &mut [u64]) -> Next
-        ensures { λ r. ⌜ (r ≡ step self (asked call (now (slice .entry)))) × (now (slice .exit) ≡ sliceLeft self call (now (slice .entry))) ⌝ }
+        ensures { λ r. ⌜ (r ≡ step self (withSlice call (now (slice .entry)))) × (now (slice .exit) ≡ sliceAfterMaking self call (now (slice .entry))) ⌝ }
     {
         match call {
             Call::By(thread, deed) => self.done_by(thread, deed),

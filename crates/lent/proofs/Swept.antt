@@ -53,7 +53,8 @@ use Rattle.desk.proofs.Desk.Laws as D′
 use Rattle.desk.proofs.Next as N
 use Rattle.desk.proofs.Next.Laws as N′
 use Rattle.lent.specs.Lent.{lentBack}
-use Rattle.lent.proofs.Lent.{desk-values, answer-values, desk-of, answer-of, next-fields, desk-begins}
+use Rattle.lent.proofs.ByValue.{desk-values}
+use Rattle.lent.proofs.Lent.{answer-values, desk-of, answer-of, next-fields, desk-begins}
 
 -- ---- the code, the signatures and the contracts
 

@@ -33,10 +33,10 @@ one-moves : (numbers : List ℕ) (value : ℕ) (rest : Option (List ℕ))
 one-moves numbers value none = refl
 one-moves numbers value (some more) = ap some (sym (append-assoc numbers (value ∷ []) more))
 
-zeros-alone : (count place : ℕ) → getD {A = ℕ} (replicate count 0) place 0 ≡ 0
-zeros-alone zero place = refl
-zeros-alone (suc count) zero = refl
-zeros-alone (suc count) (suc place) = zeros-alone count place
+zeros-only : (count place : ℕ) → getD {A = ℕ} (replicate count 0) place 0 ≡ 0
+zeros-only zero place = refl
+zeros-only (suc count) zero = refl
+zeros-only (suc count) (suc place) = zeros-only count place
 
 -- what the line says from a place on, where the first i of so many numbers are read
 abbrev numbersFrom : ℕ → List ℕ → List ℕ → ℕ → ℕ → Option (List ℕ)
@@ -56,8 +56,8 @@ none-passed count largest line =
       inside = omega arith;
       whole = refl;
       same = simp unary-clauses (sym (before-all (numbersIn (limitsFrom count largest) (drop 1 line))));
-      zeros = λ place behind. zeros-alone mostNumbers place;
-      small = λ place. omega (arith, zeros-alone mostNumbers place);
+      zeros = λ place behind. zeros-only mostNumbers place;
+      small = λ place. omega (arith, zeros-only mostNumbers place);
     }
 
 found-value : (x : Option ℕ) (end value place : ℕ) → found x end ≡ Value value place → (x ≡ some value) × (end ≡ place)

@@ -11,7 +11,7 @@ use Rattle.calls.specs.declared.Deed.the-variants.{Channel, NewThread, AttachIn
 use Rattle.calls.specs.declared.Which.the-variants.{Earliest, Latest, Named}
 use Rattle.lines.specs.Lines.{fieldsOf, allDigits, decimal, numbersOf, formAmong, lineOf, readLine}
 use Rattle.lines.specs.declared.Line.{Line}
-use Rattle.lines.specs.declared.Line.the-variants.{Asks, Unreadable}
+use Rattle.lines.specs.declared.Line.the-variants.{Makes, Unreadable}
 
 -- the bytes of a text of characters of one byte each
 abbrev pub bytes : String → List ℕ
@@ -21,21 +21,21 @@ bytes (character then text) = code character ∷ bytes text
 abbrev Reads : String → Line → Type 0
 Reads text line = readLine (bytes text) ≡ line
 
-every-letter : Reads "c 0" (Asks (By 0 Channel))
-    × Reads "n 0 7" (Asks (By 0 (NewThread 7)))
-    × Reads "i 1 2" (Asks (By 1 (AttachInput 2)))
-    × Reads "o 1 2" (Asks (By 1 (AttachOutput 2)))
-    × Reads "d 0 3" (Asks (By 0 (Detach 3)))
-    × Reads "e 15" (Asks (By 15 End))
-    × Reads "s 0 9" (Asks (By 0 (Set 9)))
-    × Reads "p 0 1 5 500" (Asks (By 0 (Put 1 5 500)))
-    × Reads "g 0 4" (Asks (By 0 (Get 4 Earliest)))
-    × Reads "G 0 4" (Asks (By 0 (Get 4 Latest)))
-    × Reads "x 0 4 5" (Asks (By 0 (Get 4 (Named 5))))
-    × Reads "f 0 4 5" (Asks (By 0 (Consume 4 5)))
-    × Reads "u 0 4 5" (Asks (By 0 (ConsumeUntil 4 5)))
-    × Reads "w" (Asks (Sweep Weak))
-    × Reads "W" (Asks (Sweep Strong))
+every-letter : Reads "c 0" (Makes (By 0 Channel))
+    × Reads "n 0 7" (Makes (By 0 (NewThread 7)))
+    × Reads "i 1 2" (Makes (By 1 (AttachInput 2)))
+    × Reads "o 1 2" (Makes (By 1 (AttachOutput 2)))
+    × Reads "d 0 3" (Makes (By 0 (Detach 3)))
+    × Reads "e 15" (Makes (By 15 End))
+    × Reads "s 0 9" (Makes (By 0 (Set 9)))
+    × Reads "p 0 1 5 500" (Makes (By 0 (Put 1 5 500)))
+    × Reads "g 0 4" (Makes (By 0 (Get 4 Earliest)))
+    × Reads "G 0 4" (Makes (By 0 (Get 4 Latest)))
+    × Reads "x 0 4 5" (Makes (By 0 (Get 4 (Named 5))))
+    × Reads "f 0 4 5" (Makes (By 0 (Consume 4 5)))
+    × Reads "u 0 4 5" (Makes (By 0 (ConsumeUntil 4 5)))
+    × Reads "w" (Makes (Sweep Weak))
+    × Reads "W" (Makes (Sweep Strong))
 unfolding fieldsOf allDigits decimal numbersOf formAmong lineOf readLine
 every-letter = (refl, refl, refl, refl, refl, refl, refl, refl, refl, refl, refl, refl, refl, refl, refl)
 
@@ -55,9 +55,9 @@ unfolding fieldsOf allDigits decimal numbersOf formAmong lineOf readLine
 counts = (refl, refl, refl, refl, refl, refl, refl, refl, refl, refl, refl)
 
 -- the largest number of each width is read, the next one is not
-widths : Reads "c 4294967295" (Asks (By 4294967295 Channel))
+widths : Reads "c 4294967295" (Makes (By 4294967295 Channel))
     × Reads "c 4294967296" Unreadable
-    × Reads "p 0 1 4294967295 18446744073709551615" (Asks (By 0 (Put 1 4294967295 18446744073709551615)))
+    × Reads "p 0 1 4294967295 18446744073709551615" (Makes (By 0 (Put 1 4294967295 18446744073709551615)))
     × Reads "p 0 1 4294967296 18446744073709551615" Unreadable
     × Reads "p 0 1 5 18446744073709551616" Unreadable
     × Reads "p 0 1 5 99999999999999999999999999999999" Unreadable
@@ -65,9 +65,9 @@ unfolding fieldsOf allDigits decimal numbersOf formAmong lineOf readLine
 widths = (refl, refl, refl, refl, refl, refl)
 
 -- leading zeros are read; 80 bytes are a line, 81 are not
-zeros : Reads "c 007" (Asks (By 7 Channel))
-    × Reads "p 00 01 00004294967295 00018446744073709551615" (Asks (By 0 (Put 1 4294967295 18446744073709551615)))
-    × (readLine (bytes "c " ++ replicate 78 48) ≡ Asks (By 0 Channel))
+zeros : Reads "c 007" (Makes (By 7 Channel))
+    × Reads "p 00 01 00004294967295 00018446744073709551615" (Makes (By 0 (Put 1 4294967295 18446744073709551615)))
+    × (readLine (bytes "c " ++ replicate 78 48) ≡ Makes (By 0 Channel))
     × (readLine (bytes "c " ++ replicate 79 48) ≡ Unreadable)
     × (readLine (replicate 80 119) ≡ Unreadable)
     × (readLine (replicate 81 119) ≡ Unreadable)

@@ -1,4 +1,4 @@
--- The letter of a line, and what it asks for. Assumes nothing.
+-- The letter of a line, and the form that it has. Assumes nothing.
 use mathlib.Core.Bool.{Bool, true, false, cond}
 use mathlib.Core.List.{List, [], _∷_}
 use mathlib.Core.Option.{Option, none, some}

@@ -1,4 +1,4 @@
--- Document 01, "The session program": what a line of bytes asks for. Assumes nothing.
+-- Document 01, "The session program": the call that a line of bytes is. Assumes nothing.
 use mathlib.Core.Bool.{Bool, true, false, cond, _&&_}
 use mathlib.Core.List.{List, [], _∷_}
 use mathlib.Core.Option.{Option, none, some}
@@ -13,7 +13,7 @@ use Rattle.calls.specs.declared.Deed.the-variants.{Channel, NewThread, AttachIn
 use Rattle.calls.specs.declared.Which.the-variants.{Earliest, Latest, Named}
 use Rattle.calls.specs.Calls.{numberLimit, ticketLimit}
 use Rattle.lines.specs.declared.Line.{Line}
-use Rattle.lines.specs.declared.Line.the-variants.{Asks, Unreadable}
+use Rattle.lines.specs.declared.Line.the-variants.{Makes, Unreadable}
 
 -- ---- the fields of a line: its bytes, parted at each space
 
@@ -50,13 +50,15 @@ abbrev pub numberBelow : ℕ → List ℕ → Option ℕ
 numberBelow limit field =
     cond (isEmpty field) none (cond (allDigits field && ltb (decimal 0 field) limit) (some (decimal 0 field)) none)
 
--- ---- the numbers of a line: as many as there are limits, each in a field of its own and below its limit; or nothing
+-- ---- the numbers of a line
 
+-- a number that was read before others: where either is nothing, "every other line .. answers `99 0 0`"
 abbrev pub withNumber : Option ℕ → Option (List ℕ) → Option (List ℕ)
 withNumber none numbers = none
 withNumber (some number) none = none
 withNumber (some number) (some numbers) = some (number ∷ numbers)
 
+-- "decimal numbers, one space before each": as many as there are limits, each in a field of its own and below its limit; or nothing
 unfoldable pub numbersOf : List ℕ → List (List ℕ) → Option (List ℕ)
 numbersOf [] [] = some []
 numbersOf [] (field ∷ fields) = none
@@ -65,15 +67,16 @@ numbersOf (limit ∷ limits) (field ∷ fields) = withNumber (numberBelow limit 
 
 -- ---- the letters
 
--- what follows a letter and what it asks for: the limits of its numbers, and the line that they make, in which `n 0` is the first of them
+-- what follows a letter and what it makes: the limits of its numbers, and the line that they make, in which `n 0` is the first of them
 pub record Form : Type 0 where
   pub limits : List ℕ
   pub line : (n : ℕ → ℕ) → Line
 
-abbrev pub asks : List ℕ → ((ℕ → ℕ) → Call) → Form
-asks limits call = record { limits = limits; line = λ n. Asks (call n) }
+-- the row of a letter that makes a call
+abbrev pub makes : List ℕ → ((ℕ → ℕ) → Call) → Form
+makes limits call = record { limits = limits; line = λ n. Makes (call n) }
 
--- a byte that is no letter: no number follows it, and it asks for nothing
+-- a byte that is no letter: no number follows it, and it makes no call
 abbrev pub noForm : Form
 noForm = record { limits = []; line = λ n. Unreadable }
 
@@ -81,32 +84,35 @@ noForm = record { limits = []; line = λ n. Unreadable }
 -- `x t k ts` (named), `f t k ts` (consume), `u t k ts` (until), `w`, `W` (weak, strong)."
 abbrev pub forms : List (Char × Form)
 forms =
-    ("c", asks (numberLimit ∷ []) (λ n. By (n 0) Channel))
-    ∷ ("n", asks (numberLimit ∷ numberLimit ∷ []) (λ n. By (n 0) (NewThread (n 1))))
-    ∷ ("i", asks (numberLimit ∷ numberLimit ∷ []) (λ n. By (n 0) (AttachInput (n 1))))
-    ∷ ("o", asks (numberLimit ∷ numberLimit ∷ []) (λ n. By (n 0) (AttachOutput (n 1))))
-    ∷ ("d", asks (numberLimit ∷ numberLimit ∷ []) (λ n. By (n 0) (Detach (n 1))))
-    ∷ ("e", asks (numberLimit ∷ []) (λ n. By (n 0) End))
-    ∷ ("s", asks (numberLimit ∷ numberLimit ∷ []) (λ n. By (n 0) (Set (n 1))))
-    ∷ ("p", asks (numberLimit ∷ numberLimit ∷ numberLimit ∷ ticketLimit ∷ []) (λ n. By (n 0) (Put (n 1) (n 2) (n 3))))
-    ∷ ("g", asks (numberLimit ∷ numberLimit ∷ []) (λ n. By (n 0) (Get (n 1) Earliest)))
-    ∷ ("G", asks (numberLimit ∷ numberLimit ∷ []) (λ n. By (n 0) (Get (n 1) Latest)))
-    ∷ ("x", asks (numberLimit ∷ numberLimit ∷ numberLimit ∷ []) (λ n. By (n 0) (Get (n 1) (Named (n 2)))))
-    ∷ ("f", asks (numberLimit ∷ numberLimit ∷ numberLimit ∷ []) (λ n. By (n 0) (Consume (n 1) (n 2))))
-    ∷ ("u", asks (numberLimit ∷ numberLimit ∷ numberLimit ∷ []) (λ n. By (n 0) (ConsumeUntil (n 1) (n 2))))
-    ∷ ("w", asks [] (λ n. Sweep Weak))
-    ∷ ("W", asks [] (λ n. Sweep Strong))
+    ("c", makes (numberLimit ∷ []) (λ n. By (n 0) Channel))
+    ∷ ("n", makes (numberLimit ∷ numberLimit ∷ []) (λ n. By (n 0) (NewThread (n 1))))
+    ∷ ("i", makes (numberLimit ∷ numberLimit ∷ []) (λ n. By (n 0) (AttachInput (n 1))))
+    ∷ ("o", makes (numberLimit ∷ numberLimit ∷ []) (λ n. By (n 0) (AttachOutput (n 1))))
+    ∷ ("d", makes (numberLimit ∷ numberLimit ∷ []) (λ n. By (n 0) (Detach (n 1))))
+    ∷ ("e", makes (numberLimit ∷ []) (λ n. By (n 0) End))
+    ∷ ("s", makes (numberLimit ∷ numberLimit ∷ []) (λ n. By (n 0) (Set (n 1))))
+    ∷ ("p", makes (numberLimit ∷ numberLimit ∷ numberLimit ∷ ticketLimit ∷ []) (λ n. By (n 0) (Put (n 1) (n 2) (n 3))))
+    ∷ ("g", makes (numberLimit ∷ numberLimit ∷ []) (λ n. By (n 0) (Get (n 1) Earliest)))
+    ∷ ("G", makes (numberLimit ∷ numberLimit ∷ []) (λ n. By (n 0) (Get (n 1) Latest)))
+    ∷ ("x", makes (numberLimit ∷ numberLimit ∷ numberLimit ∷ []) (λ n. By (n 0) (Get (n 1) (Named (n 2)))))
+    ∷ ("f", makes (numberLimit ∷ numberLimit ∷ numberLimit ∷ []) (λ n. By (n 0) (Consume (n 1) (n 2))))
+    ∷ ("u", makes (numberLimit ∷ numberLimit ∷ numberLimit ∷ []) (λ n. By (n 0) (ConsumeUntil (n 1) (n 2))))
+    ∷ ("w", makes [] (λ n. Sweep Weak))
+    ∷ ("W", makes [] (λ n. Sweep Strong))
     ∷ []
 
+-- the first of some rows that has the byte for its letter
 unfoldable pub formAmong : List (Char × Form) → ℕ → Form
 formAmong [] byte = noForm
 formAmong (row ∷ rows) byte = cond (eqb byte (code (row .0))) (row .1) (formAmong rows byte)
 
+-- "a letter": each byte has a form, and one that is none of the letters has `noForm`
 abbrev pub formOf : ℕ → Form
 formOf byte = formAmong forms byte
 
 -- ---- the line
 
+-- the line of a form with the numbers that were read, or "every other line" where they were not
 abbrev pub lineWith : Form → Option (List ℕ) → Line
 lineWith form none = Unreadable
 lineWith form (some numbers) = form .line (λ place. getD numbers place 0)
@@ -118,9 +124,10 @@ lineOf ([] ∷ fields) = Unreadable
 lineOf ((letter ∷ []) ∷ fields) = lineWith (formOf letter) (numbersOf (formOf letter .limits) fields)
 lineOf ((letter ∷ (byte ∷ bytes)) ∷ fields) = Unreadable
 
+-- "lines of at most 80 bytes"
 abbrev pub longestLine : ℕ
 longestLine = 80
 
--- "lines of at most 80 bytes"; "the empty and the overlong included"
+-- "Every other line, the empty and the overlong included, answers `99 0 0` and changes nothing."
 unfoldable pub readLine : List ℕ → Line
 readLine bytes = cond (leb (length bytes) longestLine) (lineOf (fieldsOf bytes)) Unreadable

@@ -48,10 +48,10 @@ limitsFrom (suc count) (number ∷ largest) = (number + 1) ∷ limitsFrom count 
 abbrev pub mostNumbers : ℕ
 mostNumbers = 4
 
--- only the fourth number of a line can be a ticket, whatever the letter: the others are 32-bit
-abbrev pub TicketFourth : List ℕ → Type 0
-TicketFourth numbers = Number (getD numbers 0 0) × Number (getD numbers 1 0) × Number (getD numbers 2 0)
+-- the first three numbers of a line are 32-bit, whatever the letter: only the fourth can be a ticket
+abbrev pub FirstThreeNumbers : List ℕ → Type 0
+FirstThreeNumbers numbers = Number (getD numbers 0 0) × Number (getD numbers 1 0) × Number (getD numbers 2 0)
 
--- so many numbers, of which the largest that each may be is known
-abbrev pub Known : ℕ → List ℕ → Type 0
-Known count largest = (count ≤ mostNumbers) × (count ≤ length largest) × TicketFourth largest
+-- so many numbers are no more than a line has, and the largest that each may be is given
+abbrev pub WithinLine : ℕ → List ℕ → Type 0
+WithinLine count largest = (count ≤ mostNumbers) × (count ≤ length largest) × FirstThreeNumbers largest

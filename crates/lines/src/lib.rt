@@ -3,15 +3,15 @@ ghost use mathlib.Core.Path.{_≡_};
 ghost use Prim.Native.Nat.{_+_};
 ghost use lib.ListN.{drop, getD};
 ghost use Rattle.lines.specs.Lines.{formOf, lineWith, readLine};
-ghost use Rattle.lines.specs.Reading.{Known, TicketFourth, fieldAt, limitsFrom, numbersIn};
+ghost use Rattle.lines.specs.Reading.{WithinLine, FirstThreeNumbers, fieldAt, limitsFrom, numbersIn};
 use calls::Bound;
 use calls::Call;
 use calls::Deed;
 use calls::Which;
 
-// What a line asks for.
+// What a line says: its call, or nothing that can be read.
 pub enum Line {
-    Asks(Call),
+    Makes(Call),
     Unreadable,
 }
 
@@ -58,7 +58,7 @@ pub fn read(line: &[u8]) -> Line
 
 // The numbers that follow a letter. A byte that is no letter has none.
 fn limits_of(letter: u8) -> Limits
-    ensures { λ r. ⌜ (limitsFrom (r .0) (r .1) ≡ formOf letter .limits) × Known (r .0) (r .1) ⌝ }
+    ensures { λ r. ⌜ (limitsFrom (r .0) (r .1) ≡ formOf letter .limits) × WithinLine (r .0) (r .1) ⌝ }
 {
     match letter {
         b'c' => Limits(1, NUMBERS),
@@ -80,9 +80,9 @@ fn limits_of(letter: u8) -> Limits
     }
 }
 
-// What a letter asks for with the numbers behind it, which are read from left to right.
+// What a letter says with the numbers behind it, which are read from left to right.
 fn with_numbers(line: &[u8], letter: u8, limits: Limits) -> Line
-    requires { ⌜ Known (limits .0) (limits .1) ⌝ }
+    requires { ⌜ WithinLine (limits .0) (limits .1) ⌝ }
     ensures { λ r. ⌜ r ≡ lineWith (formOf letter) (numbersIn (limitsFrom (limits .0) (limits .1)) (drop 1 (now (line .entry)))) ⌝ }
 {
     let count = limits.0;
@@ -143,7 +143,7 @@ fn number_at(line: &[u8], from: usize, largest: u64) -> Field
 
 // The call of a letter with its numbers.
 fn called(letter: u8, numbers: [u64; MOST_NUMBERS]) -> Line
-    requires { ⌜ TicketFourth numbers ⌝ }
+    requires { ⌜ FirstThreeNumbers numbers ⌝ }
     ensures { λ r. ⌜ r ≡ formOf letter .line (λ place. getD numbers place 0) ⌝ }
 {
     let first = numbers[0] as u32;
@@ -151,21 +151,21 @@ fn called(letter: u8, numbers: [u64; MOST_NUMBERS]) -> Line
     let third = numbers[2] as u32;
     let fourth = numbers[3];
     match letter {
-        b'c' => Line::Asks(Call::By(first, Deed::Channel)),
-        b'n' => Line::Asks(Call::By(first, Deed::NewThread(second))),
-        b'i' => Line::Asks(Call::By(first, Deed::AttachInput(second))),
-        b'o' => Line::Asks(Call::By(first, Deed::AttachOutput(second))),
-        b'd' => Line::Asks(Call::By(first, Deed::Detach(second))),
-        b'e' => Line::Asks(Call::By(first, Deed::End)),
-        b's' => Line::Asks(Call::By(first, Deed::Set(second))),
-        b'p' => Line::Asks(Call::By(first, Deed::Put(second, third, fourth))),
-        b'g' => Line::Asks(Call::By(first, Deed::Get(second, Which::Earliest))),
-        b'G' => Line::Asks(Call::By(first, Deed::Get(second, Which::Latest))),
-        b'x' => Line::Asks(Call::By(first, Deed::Get(second, Which::Named(third)))),
-        b'f' => Line::Asks(Call::By(first, Deed::Consume(second, third))),
-        b'u' => Line::Asks(Call::By(first, Deed::ConsumeUntil(second, third))),
-        b'w' => Line::Asks(Call::Sweep(Bound::Weak)),
-        b'W' => Line::Asks(Call::Sweep(Bound::Strong)),
+        b'c' => Line::Makes(Call::By(first, Deed::Channel)),
+        b'n' => Line::Makes(Call::By(first, Deed::NewThread(second))),
+        b'i' => Line::Makes(Call::By(first, Deed::AttachInput(second))),
+        b'o' => Line::Makes(Call::By(first, Deed::AttachOutput(second))),
+        b'd' => Line::Makes(Call::By(first, Deed::Detach(second))),
+        b'e' => Line::Makes(Call::By(first, Deed::End)),
+        b's' => Line::Makes(Call::By(first, Deed::Set(second))),
+        b'p' => Line::Makes(Call::By(first, Deed::Put(second, third, fourth))),
+        b'g' => Line::Makes(Call::By(first, Deed::Get(second, Which::Earliest))),
+        b'G' => Line::Makes(Call::By(first, Deed::Get(second, Which::Latest))),
+        b'x' => Line::Makes(Call::By(first, Deed::Get(second, Which::Named(third)))),
+        b'f' => Line::Makes(Call::By(first, Deed::Consume(second, third))),
+        b'u' => Line::Makes(Call::By(first, Deed::ConsumeUntil(second, third))),
+        b'w' => Line::Makes(Call::Sweep(Bound::Weak)),
+        b'W' => Line::Makes(Call::Sweep(Bound::Strong)),
         _ => Line::Unreadable,
     }
 }

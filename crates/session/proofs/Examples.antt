@@ -7,7 +7,7 @@ use lib.ListN.{replicate}
 use Rattle.desk.proofs.Computing.{computing}
 use Rattle.lines.specs.Lines.{fieldsOf, allDigits, decimal, numbersOf, formAmong, lineOf, readLine}
 use Rattle.lines.proofs.Examples.{bytes}
-use Rattle.text.specs.Text.{digits, decimalText, fieldText, fieldsText, answerText, longestAnswer}
+use Rattle.text.specs.Text.{digits, decimalText, fieldText, fieldsText, answerText, answerRoom}
 use Rattle.session.specs.Turns.{turnBy}
 use Rattle.session.specs.Sessions.{linesOf, answers, sessionText}
 use Rattle.session.specs.Stream.{start, readByte, printedBy, readerAfter, printedFor, printedAtEnd, usedOf, together, printedInParts}
@@ -130,19 +130,19 @@ after-overlong = refl
 
 -- ---- how much of a part is used: a newline waits where the longest answer might not fit
 
-used-with-room : usedOf start (bytes "c 0\n") longestAnswer ≡ 4
+used-with-room : usedOf start (bytes "c 0\n") answerRoom ≡ 4
 unfolding sessions
 used-with-room = refl
 
-used-without-room : usedOf start (bytes "c 0\n") (longestAnswer - 1) ≡ 3
+used-without-room : usedOf start (bytes "c 0\n") (answerRoom - 1) ≡ 3
 unfolding sessions
 used-without-room = refl
 
 -- the first answer takes 6 places
-second-waits : usedOf start (bytes "c 0\nc 0\n") (longestAnswer + 5) ≡ 7
+second-waits : usedOf start (bytes "c 0\nc 0\n") (answerRoom + 5) ≡ 7
 unfolding sessions
 second-waits = refl
 
-second-fits : usedOf start (bytes "c 0\nc 0\n") (longestAnswer + 6) ≡ 8
+second-fits : usedOf start (bytes "c 0\nc 0\n") (answerRoom + 6) ≡ 8
 unfolding sessions
 second-fits = refl

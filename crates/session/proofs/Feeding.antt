@@ -9,7 +9,7 @@ use borrow.Author.Tests.{le-ltb, lt-ltb, ne-eqb, ltb-true, ltb-false}
 use lib.Dec.{eqb, ltb}
 use lib.ListN.{length, take, drop, getD, length-append, length-drop, drop-of-length-le, take-append-drop}
 use lib.Seq.{drop-cons, take-suc, take-all, take-at, drop-append-add, drop-drop}
-use Rattle.text.specs.Text.{longestAnswer, newline, written}
+use Rattle.text.specs.Text.{answerRoom, newline, written}
 use Rattle.desk.specs.declared.Desk.{Desk}
 use Rattle.session.specs.declared.Reader.{Reader}
 use Rattle.session.specs.Turns.{turn, printed}
@@ -130,14 +130,14 @@ module _ (first : Reader) (part before : List ℕ) (r : Reader) (i at : ℕ) (ou
     pub fed-ends : (line : List ℕ) (desk : Desk) (end : ℕ) (after : List ℕ)
         → line ≡ lineSoFar r
         → eqb byte newline ≡ true
-        → at + longestAnswer ≤ length out
+        → at + answerRoom ≤ length out
         → length after ≡ length out
         → (desk ≡ turn (r .desk) line .desk) × (end ≡ at + length (printed (turn (r .desk) line))) × (after ≡ written out at (printed (turn (r .desk) line)))
         → Fed first part before (reader desk (r .line) 0) (i + 1) end after
     unfolding readByte printedBy written
     fed-ends line desk end after whole ended fits same turned =
         let told = rw whole at turned in
-        let enough : longestAnswer ≤ length before - at = omega (arith, fed-length) in
+        let enough : answerRoom ≤ length before - at = omega (arith, fed-length) in
         let says : printedBy r byte ≡ printed (turn (r .desk) (lineSoFar r)) = rw ended in
         let next : readByte r byte ≡ reader desk (r .line) 0 = rw (ended, told .0) in
         let ends : end ≡ at + length (printedBy r byte) = rw says (told .1) in
@@ -145,7 +145,7 @@ module _ (first : Reader) (part before : List ℕ) (r : Reader) (i at : ℕ) (ou
         let long : length (take at out ++ printedBy r byte ++ drop end out) ≡ length out = sym (ap length wrote) ∙ same in
         let parts = rw (length-append, length-append, front, length-drop) at long in
         let room : end ≤ length before = omega (arith, fed-length, fed .place) in
-        rw next at (fed-byte end after (rw (ended, le-ltb _ longestAnswer enough)) ends room wrote)
+        rw next at (fed-byte end after (rw (ended, le-ltb _ answerRoom enough)) ends room wrote)
 
   -- after the last byte, all bytes are used
   pub fed-all : length part ≤ i → i ≡ usedOf first part (length before)
@@ -155,10 +155,10 @@ module _ (first : Reader) (part before : List ℕ) (r : Reader) (i at : ℕ) (ou
       omega arith
 
   -- at a newline where the longest answer might not fit, the bytes before it are used
-  pub fed-waits : (byte : ℕ) → i < length part → byte ≡ getD part i 0 → eqb byte newline ≡ true → length out - at < longestAnswer → i ≡ usedOf first part (length before)
+  pub fed-waits : (byte : ℕ) → i < length part → byte ≡ getD part i 0 → eqb byte newline ≡ true → length out - at < answerRoom → i ≡ usedOf first part (length before)
   fed-waits byte more is ended short =
-      let scarce : length before - at < longestAnswer = rw fed-length at short in
-      let waiting : waits byte (length before - at) ≡ true = rw (ended, lt-ltb _ longestAnswer scarce) in
+      let scarce : length before - at < answerRoom = rw fed-length at short in
+      let waiting : waits byte (length before - at) ≡ true = rw (ended, lt-ltb _ answerRoom scarce) in
       let parted : drop i part ≡ byte ∷ drop (i + 1) part = rw (add-one, is) (drop-cons part i 0 more) in
       let none = rw (parted, used-waiting r byte (drop (i + 1) part) (length before - at) waiting) at (fed .used) in
       omega arith
@@ -190,7 +190,7 @@ kept-line line held number is long = rw is (by-test (ltb held lineKept) refl)
 -- where the longest answer fits, a newline alone is used, and prints what the end of the input prints for a line that lacks it
 pub finished : (r : Reader) (room : ℕ)
     → (r .held ≡ 0 → ⊥)
-    → longestAnswer ≤ room
+    → answerRoom ≤ room
     → printedFor r (take (usedOf r (newline ∷ []) room) (newline ∷ [])) ≡ printedAtEnd r
 unfolding usedOf printedFor printedBy printedAtEnd
-finished r room some fits = rw (le-ltb room longestAnswer fits, ne-eqb (r .held) 0 some) (append-nil _)
+finished r room some fits = rw (le-ltb room answerRoom fits, ne-eqb (r .held) 0 some) (append-nil _)

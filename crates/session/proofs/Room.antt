@@ -8,7 +8,7 @@ use lib.Dec.{eqb}
 use lib.ListN.{length, drop, length-append, length-drop}
 use borrow.Author.Tests.{le-ltb}
 use Rattle.rows.proofs.Laws.{and-comm}
-use Rattle.text.specs.Text.{longestAnswer, newline}
+use Rattle.text.specs.Text.{answerRoom, newline}
 use Rattle.session.specs.declared.Reader.{Reader}
 use Rattle.session.specs.Stream.{usedOf, readByte, printedBy, waits}
 
@@ -23,9 +23,9 @@ used-le (byte ∷ bytes) r room = go (waits byte room) (used-le bytes (readByte 
     go false le = omega arith
 
 -- with room for the longest answer a part that is not empty is not used in vain: a caller who feeds the rest again comes to its end
-pub used-some : (byte : ℕ) (bytes : List ℕ) (r : Reader) (room : ℕ) → longestAnswer ≤ room → 0 < usedOf r (byte ∷ bytes) room
+pub used-some : (byte : ℕ) (bytes : List ℕ) (r : Reader) (room : ℕ) → answerRoom ≤ room → 0 < usedOf r (byte ∷ bytes) room
 unfolding usedOf
-used-some byte bytes r room enough = rw (le-ltb room longestAnswer enough, and-comm (eqb byte newline) false) (omega arith)
+used-some byte bytes r room enough = rw (le-ltb room answerRoom enough, and-comm (eqb byte newline) false) (omega arith)
 
 -- what was written fits where it stands
 pub text-fits : (text out after : List ℕ) → after ≡ text ++ drop (length text) out → length after ≡ length out → length text ≤ length out

@@ -13,14 +13,14 @@ use Rattle.rows.proofs.Laws.{bool-cases}
 use Rattle.rows.proofs.Checks.{coded, passed, pass-decided, in-turn, turned-zero}
 use Rattle.desk.specs.declared.Desk.{Desk}
 use Rattle.desk.specs.declared.Next.{Next}
-use Rattle.calls.specs.declared.Call as code
+use Rattle.calls.specs.declared.Call as InCode
 use Rattle.calls.specs.declared.Call.the-variants.{By, Sweep}
-use Rattle.calls.specs.Calls.{Call, asked, sweep}
-use Rattle.desk.specs.Calls.{checks, told, outcome, step, sliceAfter, sliceLeft}
+use Rattle.calls.specs.Calls.{Call, sweep, withSlice}
+use Rattle.desk.specs.Calls.{checks, told, outcome, step, sliceAfter, sliceAfterMaking}
 use Rattle.lines.specs.declared.Line.{Line}
-use Rattle.lines.specs.declared.Line.the-variants.{Asks, Unreadable}
+use Rattle.lines.specs.declared.Line.the-variants.{Makes, Unreadable}
 use Rattle.lines.specs.Lines.{readLine}
-use Rattle.text.specs.Text.{answerText, hasRoom, longestAnswer, mostTickets, written}
+use Rattle.text.specs.Text.{answerText, hasRoom, answerRoom, mostTickets, written}
 use Rattle.text.proofs.Room.{room}
 use Rattle.session.specs.Turns.{Turn, sweeping, slice, turnBy, turn, printed}
 use Rattle.session.specs.Tickets.{sweptCount, ticketCount}
@@ -43,10 +43,10 @@ sweep-turned : (d : Desk) (call : Call) {next : Next} {slice : List ℕ}
 sweep-turned d call e s = rw (e, s, taken (eqb (step d call .answer .code) 0))
 
 -- any call, from what `make` promises
-pub made-turned : (d : Desk) (call : code.Call) {next : Next} {left : List ℕ}
-    → next ≡ step d (asked call slice)
-    → left ≡ sliceLeft d call slice
-    → turnBy d (Asks call) ≡ turned next (ticketCount (Asks call) (next .answer)) left
+pub made-turned : (d : Desk) (call : InCode.Call) {next : Next} {left : List ℕ}
+    → next ≡ step d (withSlice call slice)
+    → left ≡ sliceAfterMaking d call slice
+    → turnBy d (Makes call) ≡ turned next (ticketCount (Makes call) (next .answer)) left
 unfolding turnBy ticketCount
 made-turned d (By thread deed) e s = rw e
 made-turned d (Sweep bound) e s = sweep-turned d (sweep bound slice) e s
@@ -63,7 +63,7 @@ accepted-few checks told codes few =
 -- a word has 64 places
 count-few : (w : ℕ) → count w ≤ mostTickets
 unfolding count
-count-few w = count-le (has w) 64
+count-few w = count-le (has w) mostTickets
 
 -- a sweep prints no more tickets, if its value is no more
 sweep-few : (d : Desk) (call : Call) → coded (checks d call) ≡ true → told d call .value ≤ mostTickets → sweptCount (step d call .answer) ≤ mostTickets
@@ -73,25 +73,25 @@ sweep-few d call codes few = accepted-few (checks d call) (told d call) codes fe
 -- whatever the line, no more tickets are printed for it: a sweep's value is the number of items that leave
 pub tickets-few : (d : Desk) (line : Line) → ticketCount line (turnBy d line .answer) ≤ mostTickets
 unfolding ticketCount turnBy told checks
-tickets-few d (Asks (By thread deed)) = zero-le
-tickets-few d (Asks (Sweep bound)) = sweep-few d (sweep bound slice) refl (count-few _)
+tickets-few d (Makes (By thread deed)) = zero-le
+tickets-few d (Makes (Sweep bound)) = sweep-few d (sweep bound slice) refl (count-few _)
 tickets-few d Unreadable = zero-le
 
 -- ---- a line that was read, run and answered
 
 -- from what reading it, running its call, counting its tickets and writing its answer promise, with room for the longest answer:
 -- the next desk, the place behind the answer and the bytes of out are those of its turn
-pub turn-written : (d : Desk) (line : List ℕ) (asked : Line) (next : Next) (tickets : List ℕ) (number : ℕ) (out : List ℕ) (at : ℕ) (after : List ℕ) (end : ℕ)
-    → asked ≡ readLine line
-    → turnBy d asked ≡ turned next (ticketCount asked (next .answer)) tickets
-    → number ≡ ticketCount asked (next .answer)
+pub turn-written : (d : Desk) (line : List ℕ) (said : Line) (next : Next) (tickets : List ℕ) (number : ℕ) (out : List ℕ) (at : ℕ) (after : List ℕ) (end : ℕ)
+    → said ≡ readLine line
+    → turnBy d said ≡ turned next (ticketCount said (next .answer)) tickets
+    → number ≡ ticketCount said (next .answer)
     → length tickets ≡ mostTickets
-    → at + longestAnswer ≤ length out
+    → at + answerRoom ≤ length out
     → (end ≡ cond (hasRoom at (length out) number (length tickets)) (at + length (answerText (next .answer .code) (next .answer .value) (next .answer .time) (take number tickets))) at)
     × (after ≡ cond (hasRoom at (length out) number (length tickets)) (written out at (answerText (next .answer .code) (next .answer .value) (next .answer .time) (take number tickets))) out)
     → (next .desk ≡ turn d line .desk) × (end ≡ at + length (printed (turn d line))) × (after ≡ written out at (printed (turn d line)))
-turn-written d line asked next tickets number out at after end read ran counted long fits wrote =
-    let few : number ≤ mostTickets = rw counted (rw ran at (tickets-few d asked)) in
+turn-written d line said next tickets number out at after end read ran counted long fits wrote =
+    let few : number ≤ mostTickets = rw counted (rw ran at (tickets-few d said)) in
     let there : number ≤ length tickets = omega arith in
     let told = rw (room at (length out) number (length tickets) fits few there) at wrote in
     rw (← read, ran, ← counted) (refl, told .0, told .1)

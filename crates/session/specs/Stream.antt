@@ -9,7 +9,7 @@ use lib.ListN.{length, replicate, set, take}
 use Rattle.desk.specs.declared.Desk.{Desk}
 use Rattle.desk.specs.Desk.{fresh}
 use Rattle.lines.specs.Lines.{longestLine}
-use Rattle.text.specs.Text.{longestAnswer, newline}
+use Rattle.text.specs.Text.{answerRoom, newline}
 use Rattle.session.specs.declared.Reader.{Reader}
 use Rattle.session.specs.Turns.{turn, printed}
 use Rattle.session.specs.Sessions.{sessionText}
@@ -56,11 +56,11 @@ printedAtEnd r = cond (eqb (r .held) 0) [] (printed (turn (r .desk) (lineSoFar r
 
 -- at the end, nothing is written where the longest answer might not fit
 abbrev pub writtenAtEnd : Reader → ℕ → List ℕ
-writtenAtEnd r room = cond (ltb room longestAnswer) [] (printedAtEnd r)
+writtenAtEnd r room = cond (ltb room answerRoom) [] (printedAtEnd r)
 
 -- how many bytes are used of a part, with this much room for the output: a newline waits where the longest answer might not fit
 abbrev pub waits : ℕ → ℕ → Bool
-waits byte room = eqb byte newline && ltb room longestAnswer
+waits byte room = eqb byte newline && ltb room answerRoom
 
 unfoldable pub usedOf : Reader → List ℕ → ℕ → ℕ
 usedOf r [] room = 0

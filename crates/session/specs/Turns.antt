@@ -11,7 +11,7 @@ use Rattle.rows.specs.Answers.{answer}
 use Rattle.desk.specs.declared.Desk.{Desk}
 use Rattle.desk.specs.Calls.{step, sliceAfter}
 use Rattle.lines.specs.declared.Line.{Line}
-use Rattle.lines.specs.declared.Line.the-variants.{Asks, Unreadable}
+use Rattle.lines.specs.declared.Line.the-variants.{Makes, Unreadable}
 use Rattle.lines.specs.Lines.{readLine}
 use Rattle.text.specs.Text.{answerText, mostTickets}
 
@@ -25,6 +25,7 @@ pub record Turn : Type 0 where
 abbrev pub slice : List ℕ
 slice = replicate mostTickets 0
 
+-- the turn of a call: "For each line it prints code, value, time", here of what the desk does
 abbrev pub calling : Desk → Call → List ℕ → Turn
 calling d call tickets = record { answer = step d call .answer; tickets = tickets; desk = step d call .desk }
 
@@ -33,12 +34,17 @@ abbrev pub sweeping : Desk → Call → Turn
 sweeping d call =
     calling d call (cond (eqb (step d call .answer .code) 0) (take (step d call .answer .value) (sliceAfter d call)) [])
 
+-- 99: "session line not readable"
+abbrev pub unreadable : ℕ
+unreadable = 99
+
 -- a readable line is its call; "every other line .. answers `99 0 0` and changes nothing"
 unfoldable pub turnBy : Desk → Line → Turn
-turnBy d (Asks (By thread deed)) = calling d (by thread deed) []
-turnBy d (Asks (Sweep bound)) = sweeping d (sweep bound slice)
-turnBy d Unreadable = record { answer = answer 99 0 0; tickets = []; desk = d }
+turnBy d (Makes (By thread deed)) = calling d (by thread deed) []
+turnBy d (Makes (Sweep bound)) = sweeping d (sweep bound slice)
+turnBy d Unreadable = record { answer = answer unreadable 0 0; tickets = []; desk = d }
 
+-- the turn of "a line", from its bytes
 abbrev pub turn : Desk → List ℕ → Turn
 turn d line = turnBy d (readLine line)
 

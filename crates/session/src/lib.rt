@@ -13,7 +13,7 @@ use desk::Next;
 use lines::LONGEST_LINE;
 use lines::Line;
 use rows::Answer;
-use text::LONGEST_ANSWER;
+use text::ANSWER_ROOM;
 use text::MOST_TICKETS;
 
 // The code of a line that is not readable.
@@ -36,7 +36,7 @@ pub struct Fed {
     pub written: usize,
 }
 
-// The call that a line asks for. A sweep hands its tickets back in the slice.
+// Makes the call that a line is. A sweep hands its tickets back in the slice.
 fn run(desk: Desk, line: Line, slice: &mut [u64]) -> Next
     requires { ⌜ now slice ≡ replicate mostTickets 0 ⌝ }
     ensures { λ r. ⌜ (
@@ -44,7 +44,7 @@ fn run(desk: Desk, line: Line, slice: &mut [u64]) -> Next
         ) ⌝ }
 {
     match line {
-        Line::Asks(call) => desk.make(call, slice),
+        Line::Makes(call) => desk.make(call, slice),
         Line::Unreadable => {
             let answer = Answer::with_code(UNREADABLE, 0, 0);
             Next { answer, desk }
@@ -64,7 +64,7 @@ fn ticket_count(line: Line, answer: Answer) -> u64
     ensures { λ r. ⌜ r ≡ ticketCount line answer ⌝ }
 {
     match line {
-        Line::Asks(call) => match call {
+        Line::Makes(call) => match call {
             Call::By(_, _) => 0,
             Call::Sweep(_) => swept_count(answer),
         },
@@ -116,16 +116,16 @@ pub fn feed(reader: Reader, part: &[u8], out: &mut [u8]) -> Fed
                 held += 1;
             }
         } else {
-            if out.len() - at < LONGEST_ANSWER {
+            if out.len() - at < ANSWER_ROOM {
                 break;
             }
             i += 1;
             let mut slice = [0u64; MOST_TICKETS];
-            let asked = lines::read(&line[..kept(held)]);
-            let next = run(desk, asked, &mut slice);
+            let said = lines::read(&line[..kept(held)]);
+            let next = run(desk, said, &mut slice);
             desk = next.desk;
             let answer = next.answer;
-            let count = ticket_count(asked, answer) as usize;
+            let count = ticket_count(said, answer) as usize;
             at = text::write_answer(
                 out,
                 at,
@@ -152,7 +152,7 @@ pub fn finish(reader: Reader, out: &mut [u8]) -> usize
         (r ≡ length text) × (now (out .exit) ≡ text ++ drop (length text) (now (out .entry)))
         ) ⌝ }
 {
-    if out.len() < LONGEST_ANSWER {
+    if out.len() < ANSWER_ROOM {
         return 0;
     }
     if reader.held == 0 {

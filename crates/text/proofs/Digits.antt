@@ -1,4 +1,5 @@
 -- The digits of a number: how many there are, and that they can be had from the last to the first. Assumes nothing.
+use Prim.Native.Char.{code}
 use Prim.Native.Nat.{ℕ, zero, suc, _+_, _*_, _/_, _%_, _^_, _≤_, _<_}
 use mathlib.Core.Path.{_≡_, refl, ap, _∙_}
 use mathlib.Core.List.{List, [], _∷_, _++_}
@@ -9,7 +10,7 @@ use native.Mathlib.Nat.{pow-suc, one-le-pow, pow-le-pow-right}
 use borrow.Author.Tests.{le-ltb, lt-ltb, ltb-true, ltb-false}
 use lib.Dec.{ltb}
 use lib.ListN.{length, length-append}
-use Rattle.text.specs.Text.{digits, decimalText}
+use Rattle.text.specs.Text.{digits, decimalText, mostDigits}
 
 -- a test goes one way or the other
 tested : {P : Type 0} (b : Bool) → (b ≡ true → P) → (b ≡ false → P) → P
@@ -20,11 +21,11 @@ tested false passes fails = fails refl
 split : {P : Type 0} (v : ℕ) → (v < 10 → P) → (10 ≤ v → P) → P
 split v few more = tested (ltb v 10) (λ passed. few (ltb-true v 10 passed)) (λ failed. more (ltb-false v 10 failed))
 
-digits-few : (places v : ℕ) → v < 10 → digits (suc places) v ≡ (48 + v) ∷ []
+digits-few : (places v : ℕ) → v < 10 → digits (suc places) v ≡ (code "0" + v) ∷ []
 unfolding digits
 digits-few places v few = simp (lt-ltb _ _ few)
 
-digits-more : (places v : ℕ) → 10 ≤ v → digits (suc places) v ≡ digits places (v / 10) ++ ((48 + v % 10) ∷ [])
+digits-more : (places v : ℕ) → 10 ≤ v → digits (suc places) v ≡ digits places (v / 10) ++ ((code "0" + v % 10) ∷ [])
 unfolding digits
 digits-more places v more = simp (le-ltb _ _ more)
 
@@ -63,10 +64,10 @@ digits-above (suc places) (suc zeros) v above fits =
     let more : 10 ≤ v = omega (arith, one-le-pow zeros 10 (omega arith)) in
     omega (arith, length-more places v more, digits-above places zeros (v / 10) (omega arith) (omega arith))
 
--- no number is longer than 20 digits
-pub decimal-length : (v : ℕ) → length (decimalText v) ≤ 20
+-- no number is longer than the most digits
+pub decimal-length : (v : ℕ) → length (decimalText v) ≤ mostDigits
 unfolding decimalText
-decimal-length v = digits-within 20 v
+decimal-length v = digits-within mostDigits v
 
 -- each has a digit
 pub decimal-some : (v : ℕ) → 0 < length (decimalText v)
@@ -77,12 +78,12 @@ decimal-some v = digits-some 19 v
 pub decimal-below : (zeros v : ℕ) → 0 < zeros → v < 10 ^ zeros → length (decimalText v) ≤ zeros
 unfolding decimalText
 decimal-below zero v some below = omega arith
-decimal-below (suc zeros) v some below = digits-below 20 zeros v below
+decimal-below (suc zeros) v some below = digits-below mostDigits zeros v below
 
--- any other has more digits than the power has zeros, as far as 20 digits go
-pub decimal-above : (zeros v : ℕ) → zeros < 20 → 10 ^ zeros ≤ v → zeros < length (decimalText v)
+-- any other has more digits than the power has zeros, as far as the most digits go
+pub decimal-above : (zeros v : ℕ) → zeros < mostDigits → 10 ^ zeros ≤ v → zeros < length (decimalText v)
 unfolding decimalText
-decimal-above zeros v fits above = digits-above 20 zeros v above fits
+decimal-above zeros v fits above = digits-above mostDigits zeros v above fits
 
 -- a power of ten that has less than 19 zeros takes one more in 64 bits
 pub next-power : (zeros : ℕ) → zeros < 19 → 10 ^ zeros * 10 ≤ 10000000000000000000
@@ -91,7 +92,7 @@ next-power zeros fits = rw (← pow-suc) (pow-le-pow-right {n = 10} (omega arith
 -- the last `count` digits of v, leading zeros included: what is still to be written when the digits come from the last to the first
 unfoldable pub lastDigits : ℕ → ℕ → List ℕ
 lastDigits zero v = []
-lastDigits (suc count) v = lastDigits count (v / 10) ++ ((48 + v % 10) ∷ [])
+lastDigits (suc count) v = lastDigits count (v / 10) ++ ((code "0" + v % 10) ∷ [])
 
 pub length-last : (count v : ℕ) → length (lastDigits count v) ≡ count
 unfolding lastDigits
@@ -108,9 +109,9 @@ unfolding digits lastDigits
 digits-last zero v = refl
 digits-last (suc places) v =
     split v
-    (λ few. rw (digits-few places v few) (ap (λ (digit : ℕ). (48 + digit) ∷ []) (omega arith)))
-    (λ more. rw (digits-more places v more, length-append, add-one) (ap (λ (others : List ℕ). others ++ ((48 + v % 10) ∷ [])) (digits-last places (v / 10))))
+    (λ few. rw (digits-few places v few) (ap (λ (digit : ℕ). (code "0" + digit) ∷ []) (omega arith)))
+    (λ more. rw (digits-more places v more, length-append, add-one) (ap (λ (others : List ℕ). others ++ ((code "0" + v % 10) ∷ [])) (digits-last places (v / 10))))
 
 pub decimal-last : (v : ℕ) → lastDigits (length (decimalText v)) v ≡ decimalText v
 unfolding decimalText
-decimal-last v = digits-last 20 v
+decimal-last v = digits-last mostDigits v

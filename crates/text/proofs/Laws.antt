@@ -5,11 +5,11 @@ use mathlib.Core.List.{List, [], _∷_, _++_}
 use native.Mathlib.Omega.{arith}
 use lib.ListN.{length, take, drop, length-append}
 use lib.Seq.{sets, sets-eq, length-sets, length-take-le, take-at}
-use Rattle.text.specs.Text.{fieldText, fieldsText, answerText, written, mostTickets}
+use Rattle.text.specs.Text.{fieldRoom, fieldText, fieldsText, answerText, written, mostTickets}
 use Rattle.text.proofs.Digits.{decimal-length, decimal-some, decimal-below}
 use Rattle.text.proofs.Stores.{sets-append}
 
-fields-length : (tickets : List ℕ) → length (fieldsText tickets) ≤ 21 * length tickets
+fields-length : (tickets : List ℕ) → length (fieldsText tickets) ≤ fieldRoom * length tickets
 unfolding fieldsText fieldText
 fields-length [] = omega arith
 fields-length (v ∷ rest) = simp length-append (omega (arith, decimal-length v, fields-length rest))

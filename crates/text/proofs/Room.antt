@@ -4,7 +4,7 @@ use mathlib.Core.Path.{_≡_, refl}
 use mathlib.Core.Bool.{Bool, true, false, _&&_, false≢true}
 use borrow.Author.Tests.{le-leb, lt-leb, leb-true}
 use lib.Dec.{leb}
-use Rattle.text.specs.Text.{hasRoom, longestAnswer, mostTickets}
+use Rattle.text.specs.Text.{hasRoom, answerRoom, mostTickets}
 
 three : (x y z : Bool) → (x && y && z) ≡ true → (x ≡ true) × (y ≡ true) × (z ≡ true)
 three true true true e = (refl, refl, refl)
@@ -13,24 +13,24 @@ three true false z e = absurd (false≢true e)
 three false y z e = absurd (false≢true e)
 
 module _ (at places count held : ℕ) where
-  pub room-places : places < at + longestAnswer → hasRoom at places count held ≡ false
+  pub room-places : places < at + answerRoom → hasRoom at places count held ≡ false
   unfolding hasRoom
-  room-places short = simp (lt-leb (at + longestAnswer) places short)
+  room-places short = simp (lt-leb (at + answerRoom) places short)
 
-  pub room-tickets : at + longestAnswer ≤ places → mostTickets < count → hasRoom at places count held ≡ false
+  pub room-tickets : at + answerRoom ≤ places → mostTickets < count → hasRoom at places count held ≡ false
   unfolding hasRoom
-  room-tickets fits many = simp (le-leb (at + longestAnswer) places fits, lt-leb count mostTickets many)
+  room-tickets fits many = simp (le-leb (at + answerRoom) places fits, lt-leb count mostTickets many)
 
-  pub room-held : at + longestAnswer ≤ places → count ≤ mostTickets → hasRoom at places count held ≡ leb count held
+  pub room-held : at + answerRoom ≤ places → count ≤ mostTickets → hasRoom at places count held ≡ leb count held
   unfolding hasRoom
-  room-held fits few = simp (le-leb (at + longestAnswer) places fits, le-leb count mostTickets few)
+  room-held fits few = simp (le-leb (at + answerRoom) places fits, le-leb count mostTickets few)
 
-  pub room : at + longestAnswer ≤ places → count ≤ mostTickets → count ≤ held → hasRoom at places count held ≡ true
+  pub room : at + answerRoom ≤ places → count ≤ mostTickets → count ≤ held → hasRoom at places count held ≡ true
   unfolding hasRoom
-  room fits few there = simp (le-leb (at + longestAnswer) places fits, le-leb count mostTickets few, le-leb count held there)
+  room fits few there = simp (le-leb (at + answerRoom) places fits, le-leb count mostTickets few, le-leb count held there)
 
-  pub room-is : hasRoom at places count held ≡ true → (at + longestAnswer ≤ places) × (count ≤ mostTickets) × (count ≤ held)
+  pub room-is : hasRoom at places count held ≡ true → (at + answerRoom ≤ places) × (count ≤ mostTickets) × (count ≤ held)
   unfolding hasRoom
   room-is h =
-      let all = three (leb (at + longestAnswer) places) (leb count mostTickets) (leb count held) h in
+      let all = three (leb (at + answerRoom) places) (leb count mostTickets) (leb count held) h in
       (leb-true _ _ (all .0), leb-true _ _ (all .1), leb-true _ _ (all .2))

@@ -1,4 +1,5 @@
 -- Runs of stores, and texts written one after the other: two runs, the one behind the other, are one run. Assumes nothing.
+use Prim.Native.Char.{code}
 use Prim.Native.Nat.{ℕ, suc, _+_, _-_, _/_, _%_, _≤_, _<_}
 use mathlib.Core.Path.{_≡_, refl, ap, sym, _∙_}
 use mathlib.Core.List.{List, [], _∷_, _++_, append-nil, append-assoc}
@@ -29,19 +30,19 @@ set-before out at (first ∷ text) place byte behind =
 
 -- the last digit, once stored, leaves the digits before it to be stored
 last-stored : (out : List ℕ) (at count rest : ℕ)
-    → sets (set out (at + count) (48 + rest % 10)) at (lastDigits count (rest / 10)) ≡ sets out at (lastDigits (suc count) rest)
+    → sets (set out (at + count) (code "0" + rest % 10)) at (lastDigits count (rest / 10)) ≡ sets out at (lastDigits (suc count) rest)
 unfolding lastDigits
 last-stored out at count rest =
     let others : List ℕ = lastDigits count (rest / 10) in
     let many : length others ≡ count = length-last count (rest / 10) in
-    set-before out at others (at + count) (48 + rest % 10) (omega arith)
-    ∙ ap (λ (places : ℕ). set (sets out at others) (at + places) (48 + rest % 10)) (sym many)
-    ∙ sets-append out at others ((48 + rest % 10) ∷ [])
+    set-before out at others (at + count) (code "0" + rest % 10) (omega arith)
+    ∙ ap (λ (places : ℕ). set (sets out at others) (at + places) (code "0" + rest % 10)) (sym many)
+    ∙ sets-append out at others ((code "0" + rest % 10) ∷ [])
 
 -- the same at a place that counts down
 pub digit-stored : (out : List ℕ) (at place rest : ℕ)
     → at < place
-    → sets (set out (place - 1) (48 + rest % 10)) at (lastDigits (place - 1 - at) (rest / 10)) ≡ sets out at (lastDigits (place - at) rest)
+    → sets (set out (place - 1) (code "0" + rest % 10)) at (lastDigits (place - 1 - at) (rest / 10)) ≡ sets out at (lastDigits (place - at) rest)
 digit-stored out at place rest inside =
     let here : place - 1 ≡ at + (place - 1 - at) = omega arith in
     let one-more : place - at ≡ suc (place - 1 - at) = omega arith in

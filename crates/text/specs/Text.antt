@@ -1,8 +1,8 @@
 -- An answer as text. Document 01, "The session program": the program prints code, value, time, and for an accepted
 -- sweep the tickets, with one space between and a newline after them.
--- A text is the list of its bytes: 48 to 57 are the digits 0 to 9, 32 is the space.
+-- A text is the list of its bytes.
 use Prim.Native.Char.{code}
-use Prim.Native.Nat.{ℕ, zero, suc, _+_, _/_, _%_}
+use Prim.Native.Nat.{ℕ, zero, suc, _+_, _*_, _/_, _%_}
 use mathlib.Core.List.{List, [], _∷_, _++_}
 use mathlib.Core.Bool.{Bool, cond, _&&_}
 use mathlib.Core.Path.{_≡_}
@@ -14,15 +14,19 @@ use lib.Seq.{sets}
 -- of its tenth and then its last digit. So no zero stands before a number that has no more than `places` digits.
 unfoldable pub digits : ℕ → ℕ → List ℕ
 digits zero v = []
-digits (suc places) v = cond (ltb v 10) ((48 + v) ∷ []) (digits places (v / 10) ++ ((48 + v % 10) ∷ []))
+digits (suc places) v = cond (ltb v 10) ((code "0" + v) ∷ []) (digits places (v / 10) ++ ((code "0" + v % 10) ∷ []))
 
--- a number in decimal digits; 20 of them hold every number of 64 bits, the largest is 18446744073709551615
+-- so many digits hold every number of 64 bits: the largest is 18446744073709551615
+abbrev pub mostDigits : ℕ
+mostDigits = 20
+
+-- a number in decimal digits
 unfoldable pub decimalText : ℕ → List ℕ
-decimalText v = digits 20 v
+decimalText v = digits mostDigits v
 
 -- a space and a number
 unfoldable pub fieldText : ℕ → List ℕ
-fieldText v = 32 ∷ decimalText v
+fieldText v = code " " ∷ decimalText v
 
 -- numbers, a space before each
 unfoldable pub fieldsText : List ℕ → List ℕ
@@ -40,14 +44,21 @@ answerText code value time tickets = decimalText code ++ fieldText value ++ fiel
 abbrev pub mostTickets : ℕ
 mostTickets = 64
 
--- the places that the longest line can take, with three numbers of 20 digits: 20 + 21 + 21 + 64 * 21 + 1. The law `answer-length`
--- says that no line is longer than 1387, since code and time have 32 bits.
-abbrev pub longestAnswer : ℕ
-longestAnswer = 1407
+-- the room that is wanted, in places: for a field a space and a number of the most digits; for a line with so many tickets the code, fields
+-- for the value, the time and each ticket, and the newline
+abbrev pub fieldRoom : ℕ
+fieldRoom = 1 + mostDigits
 
--- whether a line is written: the longest fits from `at` on, and there are `count` tickets, no more than a sweep can hand back
+abbrev pub lineRoom : ℕ → ℕ
+lineRoom count = mostDigits + fieldRoom * (2 + count) + 1
+
+-- the room for any answer, 1407 places. The law `answer-length` says that no line is longer than 1387, since code and time have 32 bits.
+abbrev pub answerRoom : ℕ
+answerRoom = lineRoom mostTickets
+
+-- whether a line is written: there is room for any from `at` on, and there are `count` tickets, no more than a sweep can hand back
 unfoldable pub hasRoom : ℕ → ℕ → ℕ → ℕ → Bool
-hasRoom at places count held = leb (at + longestAnswer) places && leb count mostTickets && leb count held
+hasRoom at places count held = leb (at + answerRoom) places && leb count mostTickets && leb count held
 
 -- the bytes of out with the text in the places from `at` on
 unfoldable pub written : List ℕ → ℕ → List ℕ → List ℕ

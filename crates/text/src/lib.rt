@@ -4,13 +4,19 @@ ghost use mathlib.Core.Path.{_≡_};
 ghost use mathlib.Core.Bool.{cond};
 ghost use Prim.Native.Nat.{_+_, _*_, _≤_};
 ghost use lib.ListN.{length, take};
-ghost use Rattle.text.specs.Text.{decimalText, fieldText, fieldsText, answerText, hasRoom, written, Wrote};
+ghost use Rattle.text.specs.Text.{answerText, decimalText, fieldRoom, fieldText, fieldsText, hasRoom, lineRoom, mostDigits, written, Wrote};
 
-// The places that the longest line can take, whatever its numbers.
-pub const LONGEST_ANSWER: usize = 1407;
+// Every number of 64 bits has at most so many digits.
+const MOST_DIGITS: usize = 20;
+
+// A space and a number.
+const FIELD_ROOM: usize = 1 + MOST_DIGITS;
 
 // The session's slice has 64 places, so no sweep hands more tickets back.
 pub const MOST_TICKETS: usize = 64;
+
+// The places that are enough for any line, whatever its numbers: the code, fields for the value, the time and the tickets, and the newline.
+pub const ANSWER_ROOM: usize = MOST_DIGITS + FIELD_ROOM * (2 + MOST_TICKETS) + 1;
 
 // How many decimal digits a number has. The powers of ten are multiplied up, since a product is cheaper than a quotient.
 fn digit_count(number: u64) -> usize
@@ -18,7 +24,7 @@ fn digit_count(number: u64) -> usize
 {
     // Ten times this does not fit 64 bits.
     if number >= 10000000000000000000 {
-        return 20;
+        return MOST_DIGITS;
     }
     let mut count = 1;
     let mut bound: u64 = 10;
@@ -31,9 +37,9 @@ fn digit_count(number: u64) -> usize
 
 // Writes a number, its last digit first, and answers the place after it.
 fn write_number(out: &mut [u8], at: usize, number: u64) -> usize
-    requires { ⌜ at + 20 ≤ length (now out) ⌝ }
+    requires { ⌜ at + mostDigits ≤ length (now out) ⌝ }
     ensures { λ r. ⌜ Wrote (now (out .entry)) at (decimalText number) (now (out .exit)) r ⌝ }
-    ensures { λ r. ⌜ r ≤ at + 20 ⌝ }
+    ensures { λ r. ⌜ r ≤ at + mostDigits ⌝ }
 {
     let end = at + digit_count(number);
     let mut rest = number;
@@ -46,22 +52,22 @@ fn write_number(out: &mut [u8], at: usize, number: u64) -> usize
     end
 }
 
-// Writes a space and a number: at most 21 bytes.
+// Writes a space and a number.
 fn write_field(out: &mut [u8], at: usize, number: u64) -> usize
-    requires { ⌜ at + 21 ≤ length (now out) ⌝ }
+    requires { ⌜ at + fieldRoom ≤ length (now out) ⌝ }
     ensures { λ r. ⌜ Wrote (now (out .entry)) at (fieldText number) (now (out .exit)) r ⌝ }
-    ensures { λ r. ⌜ r ≤ at + 21 ⌝ }
+    ensures { λ r. ⌜ r ≤ at + fieldRoom ⌝ }
 {
     out[at] = b' ';
     write_number(out, at + 1, number)
 }
 
-// Writes the first `count` tickets, a space before each: at most 21 bytes for each.
+// Writes the first `count` tickets, a space before each.
 fn write_fields(out: &mut [u8], at: usize, tickets: &[u64], count: usize) -> usize
-    requires { ⌜ at + 21 * count ≤ length (now out) ⌝ }
+    requires { ⌜ at + fieldRoom * count ≤ length (now out) ⌝ }
     requires { ⌜ count ≤ length (now tickets) ⌝ }
     ensures { λ r. ⌜ Wrote (now (out .entry)) at (fieldsText (take count (now (tickets .entry)))) (now (out .exit)) r ⌝ }
-    ensures { λ r. ⌜ r ≤ at + 21 * count ⌝ }
+    ensures { λ r. ⌜ r ≤ at + fieldRoom * count ⌝ }
 {
     let mut end = at;
     let mut i = 0;
@@ -82,10 +88,10 @@ fn write_line(
     tickets: &[u64],
     count: usize,
 ) -> usize
-    requires { ⌜ at + 63 + 21 * count ≤ length (now out) ⌝ }
+    requires { ⌜ at + lineRoom count ≤ length (now out) ⌝ }
     requires { ⌜ count ≤ length (now tickets) ⌝ }
     ensures { λ r. ⌜ Wrote (now (out .entry)) at (answerText code value time (take count (now (tickets .entry)))) (now (out .exit)) r ⌝ }
-    ensures { λ r. ⌜ r ≤ at + 63 + 21 * count ⌝ }
+    ensures { λ r. ⌜ r ≤ at + lineRoom count ⌝ }
 {
     let after_code = write_number(out, at, code);
     let after_value = write_field(out, after_code, value);
@@ -95,14 +101,14 @@ fn write_line(
     end + 1
 }
 
-// Whether the longest line fits from `at` on and the tickets are there. No sum here can wrap.
+// Whether there is room for any line from `at` on, and whether the tickets are there. No sum here can wrap.
 fn has_room(at: usize, places: usize, count: usize, held: usize) -> bool
     ensures { λ r. ⌜ r ≡ hasRoom at places count held ⌝ }
 {
-    if places < LONGEST_ANSWER {
+    if places < ANSWER_ROOM {
         return false;
     }
-    if at > places - LONGEST_ANSWER {
+    if at > places - ANSWER_ROOM {
         return false;
     }
     if count > MOST_TICKETS {

@@ -1,4 +1,4 @@
--- A line of some length has a letter, and says what the letter asks for with the numbers behind it. Assumes nothing.
+-- A line of some length has a letter, and says what its letter says with the numbers behind it. Assumes nothing.
 use mathlib.Core.Path.{sym, _∙_}
 use native.Mathlib.Omega.{arith}
 use borrow.Author.Needs.{needs}

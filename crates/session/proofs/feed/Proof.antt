@@ -7,7 +7,7 @@ use borrow.Author.Needs.{needs}
 use borrow.Author.Tests.{eq-eqb, ne-eqb, lt-ltb, le-ltb}
 use lib.ListN.{length, length-set}
 use lib.Seq.{length-take-le}
-use Rattle.text.specs.Text.{longestAnswer}
+use Rattle.text.specs.Text.{answerRoom}
 use Rattle.session.specs.Stream.{lineKept, reader}
 use Rattle.session.proofs.Turning.{turn-written}
 use Rattle.session.proofs.Feeding.{Fed, fed-none, fed-joins, fed-ends, fed-length, fed-all, fed-waits, fed-promised, kept-line}
@@ -56,7 +56,7 @@ loop-again-3 c =
     let roomy = lent .before in
     let entered = roomy .before .before .before in
     let looped = entered .before .loop in
-    let fits : looped .at + longestAnswer ≤ length (looped .out) = omega (arith, roomy .if3 .left) in
+    let fits : looped .at + answerRoom ≤ length (looped .out) = omega (arith, roomy .if3 .left) in
     let line = kept-line (looped .line) (looped .held) _ (lent .kept .ensures) (looped .inv .1) in
     let turned = turn-written _ _ _ _ _ _ _ _ _ _ (reading .read .ensures) (ran .run .ensures) (counted .ticket-count .ensures) (ran .run .kept .1 .1 .0) fits (wrote .write-answer .ensures) in (
       fed-ends _ _ _ _ _ _ _ (looped .inv .0) _ (entered .loop-test .taken) refl _ _ _ _ line

@@ -6,7 +6,7 @@ use native.Mathlib.Omega.{arith}
 use native.Mathlib.Nat.{pow-suc}
 use native.Mathlib.Numerals.{add-one}
 use lib.ListN.{length}
-use Rattle.text.specs.Text.{decimalText}
+use Rattle.text.specs.Text.{decimalText, mostDigits}
 use Rattle.text.proofs.Digits.{decimal-length, decimal-some, decimal-below, decimal-above, next-power}
 use Rattle.text.proofs.digit_count.Statement.{statement}
 use Rattle.text.proofs.digit_count.Tie as tie
@@ -17,7 +17,7 @@ Inv-loop number count₀ bound₀ count bound =
     (1 ≤ count) × (bound ≡ 10 ^ count) × (count ≤ length (decimalText number)) × (length (decimalText number) ≤ 19)
 
 abbrev μ-loop : tie.MeasureT-loop
-μ-loop number count₀ bound₀ count bound = 20 - count
+μ-loop number count₀ bound₀ count bound = mostDigits - count
 
 returns : tie.Need-returns Inv-loop μ-loop
 returns c = omega (arith, decimal-length (c .before .args .number), decimal-above 19 (c .before .args .number) (omega arith) (c .if1 .taken))

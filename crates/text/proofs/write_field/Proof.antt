@@ -1,4 +1,5 @@
 -- A space is one text and the number another, and one text after another is one text. Assumes nothing.
+use Prim.Native.Char.{code}
 use mathlib.Core.Path.{_∙_}
 use native.Mathlib.Omega.{arith}
 use lib.ListN.{length-set}
@@ -16,7 +17,7 @@ same-length c = c .before .before .write-number .kept .0 ∙ simp length-set
 
 returns : tie.Need-returns
 unfolding fieldText
-returns c = (next (one-wrote _ _ 32) (c .before .before .write-number .ensures .0), omega arith)
+returns c = (next (one-wrote _ _ (code " ")) (c .before .before .write-number .ensures .0), omega arith)
 
 pub write-field-spec : {M : Type 1} → statement M
 write-field-spec =

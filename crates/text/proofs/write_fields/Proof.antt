@@ -4,7 +4,7 @@ use Prim.Native.Nat.{_+_, _*_, _-_, _≤_}
 use mathlib.Core.Path.{_≡_, refl, _∙_}
 use native.Mathlib.Omega.{arith}
 use lib.ListN.{length, take}
-use Rattle.text.specs.Text.{fieldsText, Wrote}
+use Rattle.text.specs.Text.{fieldRoom, fieldsText, Wrote}
 use Rattle.text.proofs.Stores.{none-wrote, field-wrote}
 use Rattle.text.proofs.write_fields.Statement.{statement}
 use Rattle.text.proofs.write_fields.Tie as tie
@@ -12,7 +12,7 @@ use Rattle.text.proofs.write_fields.Tie as tie
 -- the first i tickets stand, with room for the others behind them
 abbrev Inv-loop : tie.InvT-loop
 Inv-loop out₀ at tickets count end₀ i₀ out end i =
-    (i ≤ count) × (end ≤ at + 21 * i) × (length out ≡ length out₀) × Wrote out₀ at (fieldsText (take i tickets)) out end
+    (i ≤ count) × (end ≤ at + fieldRoom * i) × (length out ≡ length out₀) × Wrote out₀ at (fieldsText (take i tickets)) out end
 
 abbrev μ-loop : tie.MeasureT-loop
 μ-loop out₀ at tickets count end₀ i₀ out end i = count - i
