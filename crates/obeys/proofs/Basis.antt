@@ -4,8 +4,8 @@ pub use mathlib.Core.List.{List, [], _++_, _∷_}
 pub use mathlib.Core.Logic.{_↔_, _≢_, _⊎_, inl, inr, ⊎-elim}
 pub use mathlib.Core.Option.{Option, Option·none-ne-some, Option·some-injective, none, some}
 pub use mathlib.Core.Path.{_∙_, _≡_, ap, ap₂, fun-ext, refl, subst, sym}
-pub use Prim.Native.Nat.{_+_, _<_, _≤_, min, suc, zero, ℕ}
-pub use native.Mathlib.Decide.{decLe, decLt, ℕ-discrete}
+pub use Prim.Native.Nat.{_+_, _<_, _≤_, suc, zero, ℕ}
+pub use native.Mathlib.Decide.{decLt, ℕ-discrete}
 pub use native.Mathlib.Nat.{le-refl, not-suc-le-zero}
 pub use native.Mathlib.Omega.{arith}
 pub use lib.Dec.{eqb, leb, ltb}
@@ -44,7 +44,7 @@ pub use Rattle.rows.specs.declared.Found.the-variants.{At, Nothing}
 pub use Rattle.rows.specs.declared.Item.{Item}
 pub use Rattle.rows.specs.declared.Thread.{Thread}
 pub use Rattle.rows.proofs.Changed.{got-here, got-beside, consumed-here, consumed-beside, raised-as}
-pub use Rattle.rows.proofs.Checks.{Pass, coded, passed, pass-decided}
+pub use Rattle.rows.proofs.Checks.{Pass, passed, pass-decided}
 pub use Rattle.rows.proofs.Orders.{before-total}
 pub use Rattle.rows.proofs.Seen.{unconsumed, open-fact}
 pub use Rattle.tables.specs.Order.{ConnectionInOrder, Tidy}

@@ -1,6 +1,6 @@
 -- Every reached desk is in order: a start is, as its tables are all zeros but for one thread, and each effect keeps it so. Assumes nothing.
 pub mod Desks
-use Rattle.obeys.proofs.Basis.{_≡_, ap, refl, false, false≢true, true, inl, inr, _+_, _<_, _≤_, ℕ, decLt, ℕ-discrete, arith, eqb-true, leb-true, ltb-true, has, has-from, has-none, without-same, Call, Passable, by, sweep}
+use Rattle.obeys.proofs.Basis.{_≡_, ap, refl, false≢true, true, inl, inr, _+_, _<_, _≤_, ℕ, decLt, ℕ-discrete, arith, eqb-true, leb-true, ltb-true, has, has-from, has-none, without-same, Call, Passable, by, sweep}
 use Rattle.obeys.proofs.Basis.{isPending, Bound, Strong, Weak, AttachInput, AttachOutput, Channel, Consume, ConsumeUntil, Detach, End, Get, NewThread, Put, Set, Which, inward, never, noConnection, noItem, noThread, outward}
 use Rattle.obeys.proofs.Basis.{Row, Found, At, Nothing, Passed, and-left, and-right, true-not-false, isUnseenAt, lies, state, stateAt, connectionAt, connectionPlaces, isConnection, owns, threadPlaces, adopted, attachedAs}
 use Rattle.obeys.proofs.Basis.{boundOf, checks, effect, freeChannel, freeConnection, freeThread, isFound, becomesOpen, soughtBy, withConnection, connectionsOf, fresh, itemsOf, visibleTime, Desk, fewer-free, owned-below}

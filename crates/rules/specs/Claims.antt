@@ -164,6 +164,7 @@ ConnectionsStay =
 
 -- ---- limits
 
+-- a "living thread": it has a virtual time
 abbrev pub Living : (ℕ → Option ℕ) → ℕ → Type 0
 Living threads thread = (time : ℕ) × (threads thread ≡ some time)
 
