@@ -46,7 +46,11 @@ fn run(desk: Desk, line: Line, slice: &mut [u64]) -> Next
     match line {
         Line::Makes(call) => desk.make(call, slice),
         Line::Unreadable => {
-            let answer = Answer::with_code(UNREADABLE, 0, 0);
+            let answer = Answer {
+                code: UNREADABLE,
+                value: 0,
+                time: 0,
+            };
             Next { answer, desk }
         }
     }

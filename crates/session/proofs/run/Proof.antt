@@ -1,5 +1,4 @@
 -- A readable line's call is made on a slice of zeros, and its turn is what `make` promises; an unreadable line's turn is computed. Assumes nothing.
-use Rattle.rows.specs.Codes.{withCode}
 use Rattle.session.specs.Turns.{turnBy}
 use Rattle.session.specs.Tickets.{ticketCount}
 use Rattle.session.proofs.Turning.{made-turned}
@@ -15,8 +14,8 @@ returns c =
     rw (matched .line .given .1) (made-turned _ _ (made .0) (made .1))
 
 returns-2 : tie.Need-returns-2
-unfolding turnBy ticketCount withCode
-returns-2 c = rw (c .before .enum-told .given .1, c .with-code .ensures)
+unfolding turnBy ticketCount
+returns-2 c = rw (c .enum-told .given .1)
 
 pub run-spec : {M : Type 1} → statement M
 run-spec =
@@ -25,7 +24,6 @@ run-spec =
     (λ c. search needs)
     (λ c κs. search needs)
     (λ c. search needs)
-    (λ c κs. search needs)
     (λ c. search needs)
     returns
     returns-2)
