@@ -1,7 +1,7 @@
 //! What a call costs through the door, beside the same call of the second program's plain Rust:
 //!   calls names, calls desks          the calls that are measured, and the desks on which they are
 //!   calls time NAME DESK              its code, and its nanoseconds through the door and in plain Rust
-//!   calls copies NAME DESK            how many copies of the desk it makes through the door; built with second/copies.c
+//!   calls copied NAME DESK            how many bytes it copies by memcpy through the door; built with second/copies.c
 //!   calls repeat NAME DESK SIDE N     the call N times, for a count of its instructions
 //!   calls mixed FILE                  all calls of a session, through the door and in plain Rust
 //! second/speed builds and runs it.
@@ -99,14 +99,13 @@ fn time(name: &str, desk_name: &str) {
     println!("{} {door_time:.0} {plain_time:.0}", answer.code);
 }
 
-/// What the call copies in pieces of 512 bytes and more, in copies of the desk.
-fn copies(name: &str, desk_name: &str) {
+/// How many bytes the call copies by memcpy.
+fn copied(name: &str, desk_name: &str) {
     let mut lent = through::Lent::prepared(&full::calls_before(desk_name));
     let mut slice = [0; desk::ITEMS];
     let before = through::copied();
     black_box(lent.perform(full::measured(name, desk_name), &mut slice));
-    let bytes = through::copied() - before;
-    println!("{:.1}", bytes as f64 / through::DESK_SIZE as f64);
+    println!("{}", through::copied() - before);
 }
 
 /// How long all calls take on a fresh desk, in milliseconds, and what they answered, in one number.
@@ -164,7 +163,7 @@ fn main() {
         ["names"] => println!("{}", CALLS.join(" ")),
         ["desks"] => println!("{}", DESKS.join(" ")),
         ["time", name, desk_name] => time(name, desk_name),
-        ["copies", name, desk_name] => copies(name, desk_name),
+        ["copied", name, desk_name] => copied(name, desk_name),
         ["mixed", path] => mixed(path),
         ["repeat", name, desk_name, side, times] => {
             let times = times.parse().expect("a number of times");
@@ -174,7 +173,7 @@ fn main() {
             }
         }
         _ => {
-            eprintln!("usage: calls names | desks | time NAME DESK | copies NAME DESK | repeat NAME DESK SIDE TIMES | mixed FILE");
+            eprintln!("usage: calls names | desks | time NAME DESK | copied NAME DESK | repeat NAME DESK SIDE TIMES | mixed FILE");
             std::process::exit(2);
         }
     }

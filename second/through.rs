@@ -4,9 +4,7 @@ use crate::desk::{Answer, Which};
 use crate::line::Call;
 use door::raw;
 
-pub const DESK_SIZE: usize = std::mem::size_of::<raw::Desk>();
-
-/// How many bytes were copied so far in pieces of 512 and more, where the program is linked with second/copies.c.
+/// How many bytes were copied so far by memcpy and memmove, where the program is linked with second/copies.c.
 #[cfg(counting)]
 pub fn copied() -> u64 {
     extern "C" {

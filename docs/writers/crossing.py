@@ -74,14 +74,14 @@ class Sources:
         self.types = re.findall(r"^pub type (\w+) = (.+);$", self.code, re.M)
 
     def number(self, expression):
-        """What stands in the code for a number: digits, or a constant by its path, as Thread::PLACES or rows::times::NEVER."""
+        """What stands in the code for a number: digits, or a constant by its path, as rows::sizes::THREADS."""
         name = expression.removesuffix(" as usize")
         if re.fullmatch(r"\d+", name):
             return int(name)
         return self.number(only("const", name, self.constants))
 
     def kind(self, written):
-        """A type without names for arrays and for their lengths: Threads is [Thread; 16]."""
+        """A type without names for arrays and for their lengths: Times is [u32; 16]."""
         if array := ARRAY.fullmatch(written):
             return f"[{self.kind(array[1])}; {self.number(array[2])}]"
         if written in dict(self.types):

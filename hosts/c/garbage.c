@@ -4,26 +4,15 @@
  * the slice, and change neither when it refuses. Desk and slice each stand at an end of a page of their own between two
  * pages that may not be touched at all. */
 #define _DEFAULT_SOURCE
-#include "calls.h"
+#include "garbage.h"
 #include "refusals.h"
 
 #include <inttypes.h>
 #include <stdio.h>
 #include <stdlib.h>
-#include <string.h>
 #include <sys/mman.h>
 
 enum { PAGE = 4096, CALLS_A_ROUND = 20, LONGEST_SLICE = 70 };
-
-static const uint64_t edges[] = {
-    0, 1, 2, 3, 7, 8, 15, 16, 31, 32, 63, 64, 255, UINT64_C(1) << 31, UINT32_MAX - 1, UINT32_MAX, UINT64_MAX,
-};
-
-/* A call by its number in the table, with its numbers. */
-struct made {
-    size_t call;
-    uint64_t numbers[MOST_NUMBERS];
-};
 
 /* A page, what it was before a call, and the part of it that is lent. */
 struct room {
@@ -32,27 +21,6 @@ struct room {
     size_t start;
     size_t length;
 };
-
-static uint64_t state;
-
-/* The generator known as splitmix64. */
-static uint64_t random_word(void)
-{
-    uint64_t bits = state += UINT64_C(0x9e3779b97f4a7c15);
-    bits = (bits ^ (bits >> 30)) * UINT64_C(0xbf58476d1ce4e5b9);
-    bits = (bits ^ (bits >> 27)) * UINT64_C(0x94d049bb133111eb);
-    return bits ^ (bits >> 31);
-}
-
-static uint64_t below(uint64_t limit)
-{
-    return random_word() % limit;
-}
-
-static uint64_t edge(void)
-{
-    return edges[below(sizeof edges / sizeof edges[0])];
-}
 
 static void open_room(struct room *room)
 {
@@ -81,58 +49,6 @@ static bool same(const struct room *room, size_t from, size_t to)
 static bool unchanged_but(const struct room *room, size_t bytes)
 {
     return same(room, 0, room->start) && same(room, room->start + bytes, PAGE);
-}
-
-/* Rows as they could be, so that calls get far, but in no order that calls could have made. */
-static void fill_with_rows(Desk *desk)
-{
-    desk->living = random_word() | random_word();
-    desk->channels = random_word();
-    desk->attached = random_word() | random_word();
-    desk->present = random_word();
-    for (size_t place = 0; place < DESK_THREADS; place++)
-        desk->threads[place].time = (uint32_t)(below(8) ? below(12) : edge());
-    for (size_t place = 0; place < DESK_CONNECTIONS; place++) {
-        DeskConnection *connection = &desk->connections[place];
-        connection->direction = (uint32_t)(below(8) ? 1 + below(2) : edge());
-        connection->thread = (uint32_t)(below(8) ? below(4) : edge());
-        connection->channel = (uint32_t)(below(8) ? below(4) : edge());
-        connection->mark = (uint32_t)(below(8) ? below(12) : edge());
-        connection->opened = random_word() & random_word();
-        connection->consumed = random_word() & random_word();
-    }
-    for (size_t place = 0; place < DESK_ITEMS; place++) {
-        DeskItem *item = &desk->items[place];
-        item->channel = (uint32_t)(below(8) ? below(4) : edge());
-        item->timestamp = (uint32_t)(below(8) ? below(12) : edge());
-        item->ticket = random_word();
-    }
-}
-
-static void fill(Desk *desk)
-{
-    uint32_t words[sizeof *desk / sizeof(uint32_t)];
-    switch (below(5)) {
-    case 0: memset(desk, below(2) ? 0xff : 0, sizeof *desk); return;
-    case 1:
-        for (size_t word = 0; word < sizeof words / sizeof words[0]; word++)
-            words[word] = (uint32_t)(below(3) ? random_word() : edge());
-        memcpy(desk, words, sizeof *desk);
-        return;
-    default: fill_with_rows(desk);
-    }
-}
-
-/* Half of the calls that take a connection and its thread name the one that has it. */
-static void random_call(const Desk *desk, struct made *made)
-{
-    made->call = below(CALLS);
-    for (size_t each = 0; each < MOST_NUMBERS; each++)
-        made->numbers[each] = below(3) ? below(12) : below(4) ? edge() : random_word();
-    if (calls[made->call].of_connection && below(2)) {
-        made->numbers[1] = below(DESK_CONNECTIONS);
-        made->numbers[0] = desk->connections[made->numbers[1]].thread;
-    }
 }
 
 /* What is wrong with an answer, or NULL. */

@@ -3,3 +3,4 @@ pub mod Outcome
 pub mod Computing
 pub mod Cases
 pub mod Owned
+pub mod Stores

@@ -10,8 +10,8 @@ use borrow.Author.Tests.{eq-eqb, ne-eqb}
 use Rattle.rows.proofs.Laws.{cond-same}
 use Rattle.rows.proofs.Checks.{Pass, Held, held-by, coded, passed, inTurn, in-turn, turned-zero, plain, plain-coded, plainly, Telling, tellingly}
 use Rattle.rows.specs.declared.Answer.{Answer}
-use Rattle.rows.specs.Answers.{Told, Check, passes, decided}
-use Rattle.rows.specs.Codes.{withCode, telling}
+use Rattle.rows.specs.Answers.{Told, Check, needs, refusal, passes, decided}
+use Rattle.rows.specs.Codes.{checked, withCode, telling}
 use Rattle.calls.specs.Calls.{Call}
 use Rattle.desk.specs.declared.Desk.{Desk}
 use Rattle.desk.specs.declared.Next.{Next}
@@ -30,6 +30,16 @@ passing d call all = record { all = passed (checks d call) all; held = held-by (
 -- a call whose code is 0 passes its checks, none of which refuses with 0
 pub facts : (d : Desk) (call : Call) → coded (checks d call) ≡ true → {code : ℕ} → code ≡ inTurn 0 (checks d call) → code ≡ 0 → Passed d call
 facts d call codes turned zero = passing d call (sym (turned-zero (checks d call) codes) ∙ eq-eqb _ 0 (sym turned ∙ zero))
+
+-- ---- the codes in turn
+
+-- one check more, which refuses with its own code: the code after it, by the code before it and by what the check found
+pub then : (refused : ℕ) {code earlier turned : ℕ} {found holds : Bool} → earlier ≡ turned → code ≡ checked earlier (needs found (refusal refused)) → found ≡ holds
+    → code ≡ checked turned (needs holds (refusal refused))
+then refused {turned = turned} {found = found} before made is =
+    made
+    ∙ ap (λ (n : ℕ). checked n (needs found (refusal refused))) before
+    ∙ ap (λ (b : Bool). checked turned (needs b (refusal refused))) is
 
 -- ---- the exit
 

@@ -2,34 +2,29 @@
 -- Assumes nothing.
 use mathlib.Core.Bool.{Bool, true, false, cond}
 use mathlib.Core.List.{List, [], _∷_}
-use Prim.Native.Nat.{ℕ, _+_}
-use lib.Dec.{eqb, leb, ltb}
+use Prim.Native.Nat.{ℕ, _+_, max}
+use lib.Dec.{leb, ltb}
 use lib.ListN.{length, set}
 use Rattle.words.specs.Words.{with, without, except, lowestFree, count}
-use Rattle.rows.specs.declared.Connection.{Connection}
-use Rattle.rows.specs.declared.Item.{Item}
 use Rattle.calls.specs.declared.Bound.{Bound}
 use Rattle.calls.specs.declared.Bound.the-variants.{Weak, Strong}
 use Rattle.calls.specs.declared.Deed.{Deed}
-use Rattle.calls.specs.declared.Call as InCode
-use Rattle.calls.specs.declared.Call.the-variants.{By, Sweep}
 use Rattle.calls.specs.declared.Deed.the-variants.{Channel, NewThread, AttachInput, AttachOutput, Detach, End, Set, Put, Get, Consume, ConsumeUntil}
 use Rattle.calls.specs.declared.Which.{Which}
 use Rattle.calls.specs.declared.Which.the-variants.{Earliest, Latest, Named}
 use Rattle.calls.specs.Calls.{Call, by, sweep}
 use Rattle.calls.specs.States.{isOpen}
 use Rattle.rows.specs.declared.Found.{Found}
-use Rattle.rows.specs.declared.Found.the-variants.{At, Nothing}
 use Rattle.rows.specs.Answers.{Told, tells, answer, refusal, Check, needs, passes, decided}
-use Rattle.rows.specs.Facts.{got, consumedByName, raised}
-use Rattle.rows.specs.Numbers.{never, noThread, noConnection, input, output}
-use Rattle.tables.specs.Tables.{connectionAt, isLiving, owns, threadPlaces, channelPlaces, connectionPlaces, itemPlaces}
+use Rattle.rows.specs.Choices.{isFound, placeFound, timestampFound}
+use Rattle.rows.specs.Numbers.{never}
+use Rattle.tables.specs.Columns.{setAt, threadPlaces, channelPlaces, connectionPlaces, itemPlaces}
 use Rattle.tables.specs.Seen.{placeOf, state}
 use Rattle.tables.specs.Search.{sought}
-use Rattle.leaving.specs.Leaving.{itemsBelow, handedBack, clearedItems, clearedConnections, raisedConnections, ownedBy, freedConnections}
+use Rattle.leaving.specs.Leaving.{cleared, handedBack, itemsBelow, lessened, raised}
 use Rattle.desk.specs.declared.Desk.{Desk}
 use Rattle.desk.specs.declared.Next.{Next}
-use Rattle.desk.specs.Desk.{threadsOf, connectionsOf, itemsOf, isChannel, withThreads, withChannels, withConnections, withItems}
+use Rattle.desk.specs.Desk.{isLiving, isChannel, isInput, isOutput, attached, owns, ownedBy, leadsTo, itemsIn, connectionAt, ticketAt, withThreads, withChannels, withConnections, withSeen, withItems}
 use Rattle.desk.specs.Times.{visibleTime, weakBound, strongBound}
 
 -- ---- "A new thread, channel, connection or item takes the lowest free place."
@@ -41,7 +36,7 @@ abbrev pub freeChannel : Desk → ℕ
 freeChannel d = lowestFree (d .channels)
 
 abbrev pub freeConnection : Desk → ℕ
-freeConnection d = lowestFree (d .attached)
+freeConnection d = lowestFree (attached d)
 
 abbrev pub freeItem : Desk → ℕ
 freeItem d = lowestFree (d .present)
@@ -54,7 +49,7 @@ itemsPresent d = count (d .present)
 
 -- 1: "no such living thread"
 abbrev pub thread-lives : Desk → ℕ → Check
-thread-lives d thread = needs (isLiving (threadsOf d) thread) (refusal 1)
+thread-lives d thread = needs (isLiving d thread) (refusal 1)
 
 -- 2: "no such channel"
 abbrev pub channel-exists : Desk → ℕ → Check
@@ -62,11 +57,14 @@ channel-exists d channel = needs (isChannel d channel) (refusal 2)
 
 -- 3: "no such connection, or another thread's"
 abbrev pub connection-owned : Desk → ℕ → ℕ → Check
-connection-owned d thread connection = needs (owns (connectionsOf d) thread connection) (refusal 3)
+connection-owned d thread connection = needs (owns d thread connection) (refusal 3)
 
 -- 4: "connection of the other direction"
-abbrev pub connection-goes : Desk → ℕ → ℕ → Check
-connection-goes d connection direction = needs (eqb (connectionAt (connectionsOf d) connection .direction) direction) (refusal 4)
+abbrev pub connection-reads : Desk → ℕ → Check
+connection-reads d connection = needs (isInput d connection) (refusal 4)
+
+abbrev pub connection-writes : Desk → ℕ → Check
+connection-writes d connection = needs (isOutput d connection) (refusal 4)
 
 -- 5: "never given where a timestamp is needed"
 abbrev pub timestamp-given : ℕ → Check
@@ -79,7 +77,7 @@ time-visible d thread time = needs (leb (visibleTime d thread) time) (refusal 6)
 -- 7: "timestamp already present in the channel"
 abbrev pub timestamp-absent : Desk → ℕ → ℕ → Check
 timestamp-absent d connection timestamp =
-    needs (leb itemPlaces (placeOf (itemsOf d) (connectionAt (connectionsOf d) connection .channel) timestamp)) (refusal 7)
+    needs (leb itemPlaces (placeOf (d .timestamps) (itemsIn d (leadsTo d connection)) timestamp)) (refusal 7)
 
 -- 8: "64 items present"
 abbrev pub item-fits : Desk → Check
@@ -90,13 +88,9 @@ abbrev pub place-free : ℕ → ℕ → Check
 place-free place places = needs (ltb place places) (refusal 9)
 
 -- 10: "no UNSEEN item that fits"
-abbrev pub isFound : Found → Bool
-isFound (At place item) = true
-isFound Nothing = false
-
 -- what a get finds
 abbrev pub soughtBy : Desk → ℕ → Which → Found
-soughtBy d connection which = sought (itemsOf d) (connectionAt (connectionsOf d) connection) which
+soughtBy d connection which = sought (d .timestamps) (connectionAt d connection) which
 
 abbrev pub item-found : Desk → ℕ → Which → Check
 item-found d connection which = needs (isFound (soughtBy d connection which)) (refusal 10)
@@ -112,74 +106,102 @@ which-given which = needs (isGiven which) (refusal 5)
 
 -- 11: "item is not OPEN on the connection"
 abbrev pub item-open : Desk → ℕ → ℕ → Check
-item-open d connection timestamp = needs (isOpen (state (itemsOf d) (connectionAt (connectionsOf d) connection) timestamp)) (refusal 11)
+item-open d connection timestamp = needs (isOpen (state (d .timestamps) (connectionAt d connection) timestamp)) (refusal 11)
 
 -- "A sweep takes its bound."
 abbrev pub boundOf : Desk → Bound → ℕ
 boundOf d Weak = weakBound d
 boundOf d Strong = strongBound d
 
+-- "Every present item with a smaller timestamp leaves the desk."
+abbrev pub leaving : Desk → ℕ → ℕ
+leaving d bound = itemsBelow (d .timestamps) (d .present) bound
+
 -- 12: "slice shorter than the items to hand back", ".. except 12, whose value is the number of items to hand back."
 abbrev pub slice-long : Desk → ℕ → List ℕ → Check
-slice-long d bound slice =
-    needs (leb (count (itemsBelow (itemsOf d) bound)) (length slice)) (answer 12 (count (itemsBelow (itemsOf d) bound)) 0)
+slice-long d bound slice = needs (leb (count (leaving d bound)) (length slice)) (answer 12 (count (leaving d bound)) 0)
 
 -- ---- the effects
 
 -- a new thread with this virtual time, whoever creates it
 unfoldable pub adopted : Desk → ℕ → Desk
-adopted d time = withThreads d (with (d .living) (freeThread d)) (set (d .threads) (freeThread d) (record { time = time }))
+adopted d time = withThreads d (with (d .living) (freeThread d)) (set (d .times) (freeThread d) time)
 
--- a new connection
-abbrev pub connected : ℕ → ℕ → ℕ → ℕ → Connection
-connected direction thread channel mark =
-    record { direction = direction; thread = thread; channel = channel; mark = mark; opened = 0; consumed = 0 }
+-- a new connection of the thread to the channel, an input with this mark or an output; a connection that is new has seen nothing
+unfoldable pub attachedTo : Desk → (reads : Bool) (thread channel mark : ℕ) → Desk
+attachedTo d reads thread channel mark =
+    withConnections d
+    (set (d .owned) thread (with (ownedBy d thread) (freeConnection d)))
+    (cond reads (d .outputs) (with (d .outputs) (freeConnection d)))
+    (set (d .leads) (freeConnection d) channel)
+    (cond reads (with (d .inputs) (freeConnection d)) (d .inputs))
+    (set (d .marks) (freeConnection d) mark)
+    (d .opened)
+    (d .consumed)
 
-unfoldable pub attachedAs : Desk → Connection → Desk
-attachedAs d row = withConnections d (with (d .attached) (freeConnection d)) (set (d .connections) (freeConnection d) row)
-
--- another row in the place of a connection
-abbrev pub withConnection : Desk → ℕ → Connection → Desk
-withConnection d connection row = withConnections d (d .attached) (set (d .connections) connection row)
+-- some of the thread's connections freed
+unfoldable pub freed : Desk → (thread gone : ℕ) → Desk
+freed d thread gone =
+    withConnections d
+    (set (d .owned) thread (except (ownedBy d thread) gone))
+    (except (d .outputs) gone)
+    (cleared connectionPlaces gone (d .leads))
+    (except (d .inputs) gone)
+    (cleared connectionPlaces gone (d .marks))
+    (cleared connectionPlaces gone (d .opened))
+    (cleared connectionPlaces gone (d .consumed))
 
 -- "its connections and its place freed; items stay"
 unfoldable pub ended : Desk → ℕ → Desk
-ended d thread =
-    withConnections (withThreads d (without (d .living) thread) (set (d .threads) thread noThread))
-    (except (d .attached) (ownedBy (connectionsOf d) thread))
-    (freedConnections (d .connections) (ownedBy (connectionsOf d) thread))
+ended d thread = withThreads (freed d thread (ownedBy d thread)) (without (d .living) thread) (set (d .times) thread 0)
 
--- a new item in the lowest free place
-unfoldable pub stored : Desk → Item → Desk
-stored d item = withItems d (with (d .present) (freeItem d)) (set (d .items) (freeItem d) item)
+-- a new item of the channel in the lowest free place
+unfoldable pub stored : Desk → (channel timestamp ticket : ℕ) → Desk
+stored d channel timestamp ticket =
+    withItems d
+    (with (d .present) (freeItem d))
+    (setAt channelPlaces (d .held) channel (with (itemsIn d channel) (freeItem d)))
+    (set (d .timestamps) (freeItem d) timestamp)
+    (set (d .tickets) (freeItem d) ticket)
 
--- "item becomes OPEN"
-abbrev pub becomesOpen : Desk → ℕ → Found → Desk
-becomesOpen d connection (At place item) = withConnection d connection (got (connectionAt (connectionsOf d) connection) place)
-becomesOpen d connection Nothing = d
+-- "a get sets open": "item becomes OPEN"
+unfoldable pub becomesOpen : Desk → (connection place : ℕ) → Desk
+becomesOpen d connection place =
+    withSeen d (d .marks) (set (d .opened) connection (with (connectionAt d connection .opened) place)) (d .consumed)
+
+-- "a consume by name clears open and sets consumed, and nothing else sets either"
+unfoldable pub consumedByName : Desk → (connection place : ℕ) → Desk
+consumedByName d connection place =
+    withSeen d (d .marks)
+    (set (d .opened) connection (without (connectionAt d connection .opened) place))
+    (set (d .consumed) connection (with (connectionAt d connection .consumed) place))
+
+-- "mark becomes the larger of itself and timestamp + 1". "A raised mark leaves them as they are."
+unfoldable pub raisedMark : Desk → (connection time : ℕ) → Desk
+raisedMark d connection time = withSeen d (set (d .marks) connection (max (connectionAt d connection .mark) time)) (d .opened) (d .consumed)
 
 -- the items in some places leave: these are free, and "both are cleared for its place on every connection"
 unfoldable pub left : Desk → ℕ → Desk
 left d gone =
-    withItems
-    (withConnections d (d .attached) (clearedConnections (connectionsOf d) gone))
+    withItems (withSeen d (d .marks) (lessened connectionPlaces gone (d .opened)) (lessened connectionPlaces gone (d .consumed)))
     (except (d .present) gone)
-    (clearedItems (d .items) gone)
+    (lessened channelPlaces gone (d .held))
+    (cleared itemPlaces gone (d .timestamps))
+    (cleared itemPlaces gone (d .tickets))
 
 -- "On every input connection the mark then becomes the larger of itself and the bound."
 unfoldable pub raisedTo : Desk → ℕ → Desk
-raisedTo d bound = withConnections d (d .attached) (raisedConnections (connectionsOf d) bound)
+raisedTo d bound = withSeen d (raised (d .inputs) bound (d .marks)) (d .opened) (d .consumed)
 
--- "Every present item with a smaller timestamp leaves the desk.", and then the marks
+-- what leaves, and then the marks
 unfoldable pub swept : Desk → ℕ → Desk
-swept d bound = raisedTo (left d (itemsBelow (itemsOf d) bound)) bound
+swept d bound = raisedTo (left d (leaving d bound)) bound
 
 -- ---- the calls
 
 -- "ticket, timestamp"
-abbrev pub foundTold : Found → Told
-foundTold (At place item) = tells (item .ticket) (item .timestamp)
-foundTold Nothing = tells 0 0
+abbrev pub foundTold : Desk → Found → Told
+foundTold d found = tells (ticketAt d (placeFound found)) (timestampFound found)
 
 -- a row of 01's table: the refusals in order; and of an accepted call the effect, and the value and the time that it tells
 pub record Row : Type 0 where
@@ -202,60 +224,58 @@ deedRow d thread (NewThread time) =
     (tells (freeThread d) 0)
 deedRow d thread (AttachInput channel) =
     row (channel-exists d channel ∷ place-free (freeConnection d) connectionPlaces ∷ [])
-    (attachedAs d (connected input thread channel (visibleTime d thread)))
+    (attachedTo d true thread channel (visibleTime d thread))
     (tells (freeConnection d) (visibleTime d thread))
 deedRow d thread (AttachOutput channel) =
     row (channel-exists d channel ∷ place-free (freeConnection d) connectionPlaces ∷ [])
-    (attachedAs d (connected output thread channel 0))
+    (attachedTo d false thread channel 0)
     (tells (freeConnection d) 0)
 deedRow d thread (Detach connection) =
     row (connection-owned d thread connection ∷ [])
-    (withConnections d (without (d .attached) connection) (set (d .connections) connection noConnection))
+    (freed d thread (with 0 connection))
     (tells 0 0)
 deedRow d thread End = row [] (ended d thread) (tells 0 0)
 deedRow d thread (Set time) =
     row (time-visible d thread time ∷ [])
-    (withThreads d (d .living) (set (d .threads) thread (record { time = time })))
+    (withThreads d (d .living) (set (d .times) thread time))
     (tells 0 0)
 deedRow d thread (Put connection timestamp ticket) =
     row
     (connection-owned d thread connection
-    ∷ connection-goes d connection output
+    ∷ connection-writes d connection
     ∷ timestamp-given timestamp
     ∷ time-visible d thread timestamp
     ∷ timestamp-absent d connection timestamp
     ∷ item-fits d
     ∷ [])
-    (stored d (record { channel = connectionAt (connectionsOf d) connection .channel; timestamp = timestamp; ticket = ticket }))
+    (stored d (leadsTo d connection) timestamp ticket)
     (tells 0 0)
 deedRow d thread (Get connection which) =
     row
     (connection-owned d thread connection
-    ∷ connection-goes d connection input
+    ∷ connection-reads d connection
     ∷ which-given which
     ∷ item-found d connection which
     ∷ [])
-    (becomesOpen d connection (soughtBy d connection which))
-    (foundTold (soughtBy d connection which))
+    (becomesOpen d connection (placeFound (soughtBy d connection which)))
+    (foundTold d (soughtBy d connection which))
 deedRow d thread (Consume connection timestamp) =
     row
     (connection-owned d thread connection
-    ∷ connection-goes d connection input
+    ∷ connection-reads d connection
     ∷ timestamp-given timestamp
     ∷ item-open d connection timestamp
     ∷ [])
-    (withConnection d connection
-    (consumedByName (connectionAt (connectionsOf d) connection)
-    (placeOf (itemsOf d) (connectionAt (connectionsOf d) connection .channel) timestamp)))
+    (consumedByName d connection (placeOf (d .timestamps) (connectionAt d connection .items) timestamp))
     (tells 0 0)
 deedRow d thread (ConsumeUntil connection timestamp) =
-    row (connection-owned d thread connection ∷ connection-goes d connection input ∷ timestamp-given timestamp ∷ [])
-    (withConnection d connection (raised (connectionAt (connectionsOf d) connection) (timestamp + 1)))
+    row (connection-owned d thread connection ∷ connection-reads d connection ∷ timestamp-given timestamp ∷ [])
+    (raisedMark d connection (timestamp + 1))
     (tells 0 0)
 
 -- "Value is their number, time the bound."
 abbrev pub sweepRow : Desk → ℕ → List ℕ → Row
-sweepRow d bound slice = row (slice-long d bound slice ∷ []) (swept d bound) (tells (count (itemsBelow (itemsOf d) bound)) bound)
+sweepRow d bound slice = row (slice-long d bound slice ∷ []) (swept d bound) (tells (count (leaving d bound)) bound)
 
 -- a call that names a thread is first asked whether it lives; a sweep names none
 unfoldable pub checks : Desk → Call → List Check
@@ -282,12 +302,7 @@ step d call = outcome d (checks d call) (told d call) (effect d call)
 -- the slice that a sweep was lent, afterwards; the other calls are lent none
 unfoldable pub sliceAfter : Desk → Call → List ℕ
 sliceAfter d (by thread deed) = []
-sliceAfter d (sweep bound slice) = handedBack (d .items) (itemsBelow (itemsOf d) (boundOf d bound)) slice
-
--- a slice that is lent beside any call, afterwards: only a sweep hands back in it
-abbrev pub sliceAfterMaking : Desk → InCode.Call → List ℕ → List ℕ
-sliceAfterMaking d (By thread deed) slice = slice
-sliceAfterMaking d (Sweep bound) slice = sliceAfter d (sweep bound slice)
+sliceAfter d (sweep bound slice) = handedBack (d .timestamps) (d .tickets) (d .held) (leaving d (boundOf d bound)) slice
 
 -- the desk after some calls
 unfoldable pub after : Desk → List Call → Desk

@@ -5,17 +5,15 @@ use Rattle.calls.specs.Questions.{Question, visible-time, weak-bound, strong-bo
 use Rattle.calls.specs.States.{stateNumber}
 use Rattle.rows.specs.declared.Answer.{Answer}
 use Rattle.rows.specs.Answers.{Told, tells, refusal, Check, needs, decided}
-use Rattle.rows.specs.Numbers.{input}
-use Rattle.tables.specs.Tables.{connectionAt, isConnection}
 use Rattle.tables.specs.Seen.{state}
 use Rattle.desk.specs.declared.Desk.{Desk}
-use Rattle.desk.specs.Desk.{connectionsOf, itemsOf}
+use Rattle.desk.specs.Desk.{connectionAt, isConnection}
 use Rattle.desk.specs.Times.{visibleTime, weakBound, strongBound}
-use Rattle.desk.specs.Calls.{thread-lives, connection-goes, timestamp-given, itemsPresent}
+use Rattle.desk.specs.Calls.{thread-lives, connection-reads, timestamp-given, itemsPresent}
 
 -- "3 where there is no such connection, 4, 5; no thread is named"
 abbrev pub connection-exists : Desk → ℕ → Check
-connection-exists d connection = needs (isConnection (connectionsOf d) connection) (refusal 3)
+connection-exists d connection = needs (isConnection d connection) (refusal 3)
 
 -- "refused by the same codes"
 unfoldable pub questionChecks : Desk → Question → List Check
@@ -23,7 +21,7 @@ questionChecks d (visible-time thread) = thread-lives d thread ∷ []
 questionChecks d weak-bound = []
 questionChecks d strong-bound = []
 questionChecks d (state-of connection timestamp) =
-    connection-exists d connection ∷ connection-goes d connection input ∷ timestamp-given timestamp ∷ []
+    connection-exists d connection ∷ connection-reads d connection ∷ timestamp-given timestamp ∷ []
 questionChecks d items-present = []
 
 -- "A visible time or a bound stands in the time, with value 0. A state stands in the value, .., and the number of items stands in the value, both with
@@ -33,7 +31,7 @@ questionTold d (visible-time thread) = tells 0 (visibleTime d thread)
 questionTold d weak-bound = tells 0 (weakBound d)
 questionTold d strong-bound = tells 0 (strongBound d)
 questionTold d (state-of connection timestamp) =
-    tells (stateNumber (state (itemsOf d) (connectionAt (connectionsOf d) connection) timestamp)) 0
+    tells (stateNumber (state (d .timestamps) (connectionAt d connection) timestamp)) 0
 questionTold d items-present = tells (itemsPresent d) 0
 
 -- what a question is answered: every contract of a question is an equality with this

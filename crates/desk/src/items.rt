@@ -1,30 +1,24 @@
 // The calls on items: put, get, consume, consume until.
 ghost use mathlib.Core.Path.{_≡_};
 ghost use Rattle.calls.specs.Calls.{put, get, consume, consume-until};
-ghost use Rattle.desk.specs.Calls.{step, isFound, isGiven};
+ghost use Rattle.desk.specs.Calls.{step, isGiven};
 use crate::Desk;
 use crate::Next;
-use crate::is_owned;
+use crate::connection_code;
 use calls::Which;
 use rows::Answer;
-use rows::Connection;
-use rows::Found;
-use rows::Item;
 use rows::answers::needs;
-use tables::places::in_use;
-use tables::places::within;
+use rows::times::larger;
+use tables::columns::connection_at;
+use tables::columns::held_at;
+use tables::columns::hold;
+use tables::columns::number_at;
+use tables::columns::owned_at;
+use tables::columns::ticket_at;
+use tables::columns::time_at;
 use tables::search::place_of;
 use tables::search::seek;
-
-// Whether the search found an item.
-fn is_found(found: Found) -> bool
-    ensures { λ r. ⌜ r ≡ isFound found ⌝ }
-{
-    match found {
-        Found::At(_, _) => true,
-        Found::Nothing => false,
-    }
-}
+use tables::times::least_open;
 
 // Whether a get that names a timestamp names one that is not never.
 fn is_given(which: Which) -> bool
@@ -41,97 +35,102 @@ impl Desk {
     pub fn put(mut self, thread: u32, connection: u32, timestamp: u32, ticket: u64) -> Next
         ensures { λ r. ⌜ r ≡ step self (put thread connection timestamp ticket) ⌝ }
     {
-        let connections = self.connections;
-        let mut items = self.items;
-        let visible = self.visible(thread);
-        let near = connections[within(connection, Desk::CONNECTIONS) as usize];
-        let row = near.where_there(connection < Desk::CONNECTIONS);
-        let same = place_of(items, self.present, row.channel, timestamp);
+        let times = self.times;
+        let owned = self.owned;
+        let leads = self.leads;
+        let marks = self.marks;
+        let opened = self.opened;
+        let mut held = self.held;
+        let mut timestamps = self.timestamps;
+        let mut tickets = self.tickets;
+        let readers = words::both(self.inputs, owned_at(&owned, thread));
+        let time = time_at(&times, thread);
+        let visible = least_open(readers, time, &leads, &held, &marks, &opened, &timestamps);
+        let channel = number_at(&leads, connection);
+        let same = place_of(&timestamps, held_at(&held, channel), timestamp);
         let place = words::lowest_free(self.present);
         let number = words::count(self.present);
-        let code = needs(0, in_use(self.living, thread, Desk::THREADS), 1);
-        let code = needs(code, is_owned(self.attached, connection, row, thread), 3);
-        let code = needs(code, row.direction == Connection::OUTPUT, 4);
+        let code = connection_code(self.living, &owned, self.outputs, thread, connection);
         let code = needs(code, timestamp < Desk::NEVER, 5);
         let code = needs(code, visible <= timestamp, 6);
         let code = needs(code, Desk::ITEMS <= same, 7);
         let code = needs(code, number < Desk::ITEMS, 8);
         let answer = Answer::with_code(code, 0, 0);
         if code == 0 {
-            items[place as usize] = Item {
-                channel: row.channel,
-                timestamp,
-                ticket,
-            };
+            hold(&mut held, channel, place);
+            timestamps[place as usize] = timestamp;
+            tickets[place as usize] = ticket;
             self.present = words::with(self.present, place);
         }
-        self.items = items;
+        self.held = held;
+        self.timestamps = timestamps;
+        self.tickets = tickets;
         Next { answer, desk: self }
     }
 
     pub fn get(mut self, thread: u32, connection: u32, which: Which) -> Next
         ensures { λ r. ⌜ r ≡ step self (get thread connection which) ⌝ }
     {
-        let mut connections = self.connections;
-        let items = self.items;
-        let near = connections[within(connection, Desk::CONNECTIONS) as usize];
-        let row = near.where_there(connection < Desk::CONNECTIONS);
-        let found = seek(items, self.present, row, which);
-        let code = needs(0, in_use(self.living, thread, Desk::THREADS), 1);
-        let code = needs(code, is_owned(self.attached, connection, row, thread), 3);
-        let code = needs(code, row.direction == Connection::INPUT, 4);
+        let owned = self.owned;
+        let leads = self.leads;
+        let marks = self.marks;
+        let mut opened = self.opened;
+        let consumed = self.consumed;
+        let held = self.held;
+        let timestamps = self.timestamps;
+        let tickets = self.tickets;
+        let row = connection_at(&leads, &held, &marks, &opened, &consumed, connection);
+        let found = seek(&timestamps, row, which);
+        let code = connection_code(self.living, &owned, self.inputs, thread, connection);
         let code = needs(code, is_given(which), 5);
-        let code = needs(code, is_found(found), 10);
-        let Found::At(place, item) = found else {
-            return Next {
-                answer: Answer::with_code(code, 0, 0),
-                desk: self,
-            };
-        };
-        let answer = Answer::with_code(code, item.ticket, item.timestamp);
+        let code = needs(code, found.is_found(), 10);
+        let place = found.place();
+        let answer = Answer::with_code(code, ticket_at(&tickets, place), found.timestamp());
         if code == 0 {
-            connections[connection as usize] = row.got(place);
+            opened[connection as usize] = words::with(row.opened, place);
         }
-        self.connections = connections;
+        self.opened = opened;
         Next { answer, desk: self }
     }
 
     pub fn consume(mut self, thread: u32, connection: u32, timestamp: u32) -> Next
         ensures { λ r. ⌜ r ≡ step self (consume thread connection timestamp) ⌝ }
     {
-        let mut connections = self.connections;
-        let items = self.items;
-        let near = connections[within(connection, Desk::CONNECTIONS) as usize];
-        let row = near.where_there(connection < Desk::CONNECTIONS);
-        let place = place_of(items, self.present, row.channel, timestamp);
-        let code = needs(0, in_use(self.living, thread, Desk::THREADS), 1);
-        let code = needs(code, is_owned(self.attached, connection, row, thread), 3);
-        let code = needs(code, row.direction == Connection::INPUT, 4);
+        let owned = self.owned;
+        let leads = self.leads;
+        let marks = self.marks;
+        let mut opened = self.opened;
+        let mut consumed = self.consumed;
+        let held = self.held;
+        let timestamps = self.timestamps;
+        let row = connection_at(&leads, &held, &marks, &opened, &consumed, connection);
+        let place = place_of(&timestamps, row.items, timestamp);
+        let code = connection_code(self.living, &owned, self.inputs, thread, connection);
         let code = needs(code, timestamp < Desk::NEVER, 5);
         let code = needs(code, row.state_of(timestamp, place).is_open(), 11);
         let answer = Answer::with_code(code, 0, 0);
         if code == 0 {
-            connections[connection as usize] = row.consumed_by_name(place);
+            opened[connection as usize] = words::without(row.opened, place);
+            consumed[connection as usize] = words::with(row.consumed, place);
         }
-        self.connections = connections;
+        self.opened = opened;
+        self.consumed = consumed;
         Next { answer, desk: self }
     }
 
     pub fn consume_until(mut self, thread: u32, connection: u32, timestamp: u32) -> Next
         ensures { λ r. ⌜ r ≡ step self (consume-until thread connection timestamp) ⌝ }
     {
-        let mut connections = self.connections;
-        let near = connections[within(connection, Desk::CONNECTIONS) as usize];
-        let row = near.where_there(connection < Desk::CONNECTIONS);
-        let code = needs(0, in_use(self.living, thread, Desk::THREADS), 1);
-        let code = needs(code, is_owned(self.attached, connection, row, thread), 3);
-        let code = needs(code, row.direction == Connection::INPUT, 4);
+        let owned = self.owned;
+        let mut marks = self.marks;
+        let mark = number_at(&marks, connection);
+        let code = connection_code(self.living, &owned, self.inputs, thread, connection);
         let code = needs(code, timestamp < Desk::NEVER, 5);
         let answer = Answer::with_code(code, 0, 0);
         if code == 0 {
-            connections[connection as usize] = row.raised(timestamp + 1);
+            marks[connection as usize] = larger(mark, timestamp + 1);
         }
-        self.connections = connections;
+        self.marks = marks;
         Next { answer, desk: self }
     }
 }

@@ -1,42 +1,48 @@
-// The desk by value: threads, channels, connections and items, and every call on them.
+// The desk by value: threads, channels, connections and items as columns of numbers and words of places, and every call on them.
 ghost use mathlib.Core.Path.{_≡_};
-ghost use mathlib.Core.Bool.{_&&_};
-ghost use lib.Dec.{eqb};
-ghost use Rattle.tables.specs.Tables.{inUse, connectionPlaces};
 ghost use Rattle.desk.specs.Desk.{fresh};
-ghost use Rattle.desk.specs.Times.{visibleTime, weakBound, strongBound};
+ghost use Rattle.desk.specs.Codes.{connectionCode};
+ghost use Rattle.desk.specs.Times.{visibleTime};
 use rows::Answer;
-use rows::Connection;
-use rows::Connections;
-use rows::Item;
-use rows::Items;
-use rows::Thread;
-use rows::Threads;
-use rows::times::smaller;
+use rows::answers::needs;
+use tables::columns::Held;
+use tables::columns::Numbers;
+use tables::columns::Owned;
+use tables::columns::Tickets;
+use tables::columns::Times;
+use tables::columns::Timestamps;
+use tables::columns::Words;
+use tables::columns::owned_at;
+use tables::columns::time_at;
 use tables::places::in_use;
-use tables::places::thread_at;
-use tables::times::least_awaited;
-use tables::times::least_keep;
 use tables::times::least_open;
-use tables::times::least_time;
 
 mod connections;
 mod items;
-mod made;
 mod questions;
 mod sweeps;
 mod threads;
 
-// For each table the word of its used places and its rows; a channel is a used place alone.
+// Each fact stands once. Of threads: virtual times, who is living, whose connections are whose. Of connections: which write, the channel that
+// each leads to, which read, their marks and the two facts. Which channels exist. Of items: in which places one lies, which of these each
+// channel holds, timestamps and tickets. A call that changes a column takes it out of the desk once and puts it back; the columns that change
+// together stand together, as what lies between is copied along.
 #[repr(C)]
 pub struct Desk {
+    pub times: Times,
     pub living: u64,
-    pub threads: Threads,
+    pub owned: Owned,
+    pub outputs: u64,
+    pub leads: Numbers,
+    pub inputs: u64,
+    pub marks: Numbers,
+    pub opened: Words,
+    pub consumed: Words,
     pub channels: u64,
-    pub attached: u64,
-    pub connections: Connections,
     pub present: u64,
-    pub items: Items,
+    pub held: Held,
+    pub timestamps: Timestamps,
+    pub tickets: Tickets,
 }
 
 // The answer to a call, and the desk after it.
@@ -46,14 +52,14 @@ pub struct Next {
     pub desk: Desk,
 }
 
-// Whether the connection in the place is the thread's, given its row.
-fn is_owned(attached: u64, connection: u32, row: Connection, thread: u32) -> bool
-    ensures { λ r. ⌜ r ≡ (inUse attached connection connectionPlaces && eqb (row .thread) thread) ⌝ }
+// The checks 1, 3 and 4, which come first in each call through a connection: the thread lives, the connection is its own, and goes this way.
+fn connection_code(living: u64, owned: &Owned, way: u64, thread: u32, connection: u32) -> u32
+    ensures { λ r. ⌜ r ≡ connectionCode living (now (owned .entry)) way thread connection ⌝ }
 {
-    if !in_use(attached, connection, Desk::CONNECTIONS) {
-        return false;
-    }
-    row.thread == thread
+    let own = owned_at(owned, thread);
+    let code = needs(0, in_use(living, thread, Desk::THREADS), 1);
+    let code = needs(code, in_use(own, connection, Desk::CONNECTIONS), 3);
+    needs(code, in_use(way, connection, Desk::CONNECTIONS), 4)
 }
 
 impl Desk {
@@ -61,29 +67,33 @@ impl Desk {
 
     pub const LARGEST_TIMESTAMP: u32 = 4294967294;
 
-    pub const THREADS: u32 = Thread::PLACES;
+    pub const THREADS: u32 = rows::sizes::THREADS;
 
-    pub const CHANNELS: u32 = 8;
+    pub const CHANNELS: u32 = rows::sizes::CHANNELS;
 
-    pub const CONNECTIONS: u32 = Connection::PLACES;
+    pub const CONNECTIONS: u32 = rows::sizes::CONNECTIONS;
 
-    pub const ITEMS: u32 = Item::PLACES;
+    pub const ITEMS: u32 = rows::sizes::ITEMS;
 
     // A fresh desk has thread 0 with virtual time 0 and nothing else.
     pub fn fresh() -> Desk
         ensures { λ r. ⌜ r ≡ fresh ⌝ }
     {
-        let threads = [Thread::NONE; Thread::PLACES as usize];
-        let connections = [Connection::NONE; Connection::PLACES as usize];
-        let items = [Item::NONE; Item::PLACES as usize];
         Desk {
+            times: [0; Desk::THREADS as usize],
             living: 1,
-            threads,
+            owned: [0; Desk::THREADS as usize],
+            outputs: 0,
+            leads: [0; Desk::CONNECTIONS as usize],
+            inputs: 0,
+            marks: [0; Desk::CONNECTIONS as usize],
+            opened: [0; Desk::CONNECTIONS as usize],
+            consumed: [0; Desk::CONNECTIONS as usize],
             channels: 0,
-            attached: 0,
-            connections,
             present: 0,
-            items,
+            held: [0; Desk::CHANNELS as usize],
+            timestamps: [0; Desk::ITEMS as usize],
+            tickets: [0; Desk::ITEMS as usize],
         }
     }
 
@@ -91,33 +101,15 @@ impl Desk {
     fn visible(self, thread: u32) -> u32
         ensures { λ r. ⌜ r ≡ visibleTime self thread ⌝ }
     {
-        let threads = self.threads;
-        let connections = self.connections;
-        let items = self.items;
-        let own = thread_at(threads, thread);
-        let open = least_open(connections, self.attached, items, self.present, thread);
-        smaller(own.time, open)
-    }
-
-    // The smallest of all virtual times of living threads and all keep times.
-    fn weak(self) -> u32
-        ensures { λ r. ⌜ r ≡ weakBound self ⌝ }
-    {
-        let threads = self.threads;
-        let connections = self.connections;
-        let time = least_time(threads, self.living);
-        let keep = least_keep(connections, self.attached);
-        smaller(time, keep)
-    }
-
-    // The smallest of all virtual times and of all timestamps UNSEEN or OPEN on some input connection.
-    fn strong(self) -> u32
-        ensures { λ r. ⌜ r ≡ strongBound self ⌝ }
-    {
-        let threads = self.threads;
-        let connections = self.connections;
-        let items = self.items;
-        let time = least_time(threads, self.living);
-        least_awaited(connections, self.attached, items, self.present, time)
+        let times = self.times;
+        let owned = self.owned;
+        let leads = self.leads;
+        let marks = self.marks;
+        let opened = self.opened;
+        let held = self.held;
+        let timestamps = self.timestamps;
+        let readers = words::both(self.inputs, owned_at(&owned, thread));
+        let time = time_at(&times, thread);
+        least_open(readers, time, &leads, &held, &marks, &opened, &timestamps)
     }
 }

@@ -4,11 +4,13 @@ ghost use Rattle.calls.specs.Questions.{visible-time, weak-bound, strong-bound,
 ghost use Rattle.desk.specs.Questions.{reply};
 use crate::Desk;
 use rows::Answer;
-use rows::Connection;
 use rows::answers::needs;
+use tables::columns::connection_at;
 use tables::places::in_use;
-use tables::places::within;
 use tables::search::place_of;
+use tables::times::least_awaited;
+use tables::times::least_keep;
+use tables::times::least_time;
 
 impl Desk {
     pub fn visible_time(self, thread: u32) -> Answer
@@ -22,25 +24,50 @@ impl Desk {
     pub fn weak_bound(self) -> Answer
         ensures { λ r. ⌜ r ≡ reply self weak-bound ⌝ }
     {
-        Answer::with_code(0, 0, self.weak())
+        let times = self.times;
+        let marks = self.marks;
+        let time = least_time(self.living, &times);
+        Answer::with_code(0, 0, least_keep(self.inputs, time, &marks))
     }
 
     pub fn strong_bound(self) -> Answer
         ensures { λ r. ⌜ r ≡ reply self strong-bound ⌝ }
     {
-        Answer::with_code(0, 0, self.strong())
+        let times = self.times;
+        let leads = self.leads;
+        let marks = self.marks;
+        let opened = self.opened;
+        let consumed = self.consumed;
+        let held = self.held;
+        let timestamps = self.timestamps;
+        let time = least_time(self.living, &times);
+        let bound = least_awaited(
+            self.inputs,
+            time,
+            &leads,
+            &held,
+            &marks,
+            &opened,
+            &consumed,
+            &timestamps,
+        );
+        Answer::with_code(0, 0, bound)
     }
 
     pub fn state(self, connection: u32, timestamp: u32) -> Answer
         ensures { λ r. ⌜ r ≡ reply self (state-of connection timestamp) ⌝ }
     {
-        let connections = self.connections;
-        let items = self.items;
-        let near = connections[within(connection, Desk::CONNECTIONS) as usize];
-        let row = near.where_there(connection < Desk::CONNECTIONS);
-        let place = place_of(items, self.present, row.channel, timestamp);
-        let code = needs(0, in_use(self.attached, connection, Desk::CONNECTIONS), 3);
-        let code = needs(code, row.direction == Connection::INPUT, 4);
+        let leads = self.leads;
+        let marks = self.marks;
+        let opened = self.opened;
+        let consumed = self.consumed;
+        let held = self.held;
+        let timestamps = self.timestamps;
+        let row = connection_at(&leads, &held, &marks, &opened, &consumed, connection);
+        let place = place_of(&timestamps, row.items, timestamp);
+        let attached = words::either(self.inputs, self.outputs);
+        let code = needs(0, in_use(attached, connection, Desk::CONNECTIONS), 3);
+        let code = needs(code, in_use(self.inputs, connection, Desk::CONNECTIONS), 4);
         let code = needs(code, timestamp < Desk::NEVER, 5);
         Answer::with_code(code, row.state_of(timestamp, place).number(), 0)
     }

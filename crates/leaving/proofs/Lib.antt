@@ -1,8 +1,9 @@
--- The laws of what leaves, and of the rows afterwards.
-pub mod Rows
-pub mod Thinned
+-- The laws of columns that change, and of what leaves.
 pub mod Changed
-pub mod Left
-pub mod First
+pub mod Loops
+pub mod Kept
+pub mod Tickets
 pub mod Places
 pub mod Stay
+pub mod First
+pub mod Connections

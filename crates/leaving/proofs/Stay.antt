@@ -1,105 +1,94 @@
--- The items of some places leave, and a row keeps the facts of the others alone: an item that stays is as it was and where it was, so the items are in
--- order and the facts stand. Where the places are those of a set of pairs, a pair of the set has no place any more. Assumes nothing.
+-- The items of some places leave, and a connection keeps the facts of the others alone: an item that stays is as it was and where it was, so that its state
+-- stays too. Of one channel's items those leave whose timestamps are of a set: such a timestamp has no place any more. Assumes nothing.
 use mathlib.Core.Bool.{Bool, cond, false, true}
-use mathlib.Core.Path.{_∙_, _≡_, ap, ap₂, sym}
+use mathlib.Core.List.{List}
+use mathlib.Core.Path.{_∙_, _≡_, ap, sym}
 use Prim.Native.Nat.{_<_, ℕ}
+use native.Mathlib.Decide.{decLt}
 use native.Mathlib.Omega.{arith}
 use lib.Dec.{ltb}
+use lib.ListN.{length}
 use borrow.Author.Tests.{ltb-false, ltb-true}
 use Rattle.words.specs.Words.{except, has}
 use Rattle.words.proofs.Changes.{except-kept, except-stays, except-was}
-use Rattle.words.proofs.YesOrNo.{bool-cases, not-then, true-not-false}
+use Rattle.words.proofs.YesOrNo.{bool-cases, true-not-false}
 use Rattle.calls.specs.declared.State.the-variants.{Absent, Consumed}
-use Rattle.rows.specs.Facts.{cleared}
 use Rattle.rows.specs.declared.Connection.{Connection}
-use Rattle.rows.specs.declared.Item.{Item}
+use Rattle.rows.proofs.Changed as Row
 use Rattle.rows.proofs.Changed.{cleared-kept}
 use Rattle.rows.proofs.Seen.{state-absent}
-use Rattle.tables.specs.Order.{ItemsInOrder, Stands}
+use Rattle.tables.specs.Columns.{at, itemPlaces}
 use Rattle.tables.specs.Seen.{placeOf, state}
-use Rattle.tables.specs.Tables.{Table, isPresent, itemAt, itemPlaces, table}
-use Rattle.tables.proofs.Items.{Holds, found-holds, same-place}
-use Rattle.leaving.specs.Leaving.{clearedItems}
-use Rattle.leaving.proofs.Places.{PlacesOf}
-use Rattle.leaving.proofs.Thinned.{thinned-row, tidy-thinned}
+use Rattle.tables.proofs.Items.{Distinct, Holds, found-holds, same-place}
+use Rattle.leaving.specs.Leaving.{cleared}
+use Rattle.leaving.proofs.Changed.{kept-at}
 
-module _ {items : Table Item} (o : ItemsInOrder items) (gone : ℕ) where
-  abbrev left : Table Item
-  left = table (except (items .used) gone) (clearedItems (items .rows) gone)
+module _ (timestamps : List ℕ) (sized : length timestamps ≡ itemPlaces) (gone : ℕ) where
+  abbrev left : List ℕ
+  left = cleared itemPlaces gone timestamps
 
   -- the items that are left are as they were
-  pub left-item : (place : ℕ) → isPresent left place ≡ true → itemAt left place ≡ itemAt items place
-  unfolding clearedItems
-  left-item place held = thinned-row (o .tidy) (omega arith) gone place held
+  left-item : (places place : ℕ) → has (except places gone) place ≡ true → at itemPlaces left place ≡ at itemPlaces timestamps place
+  left-item places place held = kept-at itemPlaces gone timestamps sized place (except-kept places gone place held)
 
-  pub items-left : ItemsInOrder left
-  unfolding clearedItems
-  items-left = record {
-    tidy = tidy-thinned (o .tidy) (omega arith) gone;
-    timestamps = λ place held. rw (left-item place held) (o .timestamps place (except-was (items .used) gone place held));
-    one-item-a-pair = λ place other held other-held channel timestamp.
-        o .one-item-a-pair place other (except-was (items .used) gone place held) (except-was (items .used) gone other other-held)
-        (rw (left-item place held, left-item other other-held) at channel)
-        (rw (left-item place held, left-item other other-held) at timestamp);
-  }
+  pub distinct-left : (places : ℕ) → Distinct timestamps places → Distinct left (except places gone)
+  distinct-left places distinct place other held also same =
+      distinct place other (except-was places gone place held) (except-was places gone other also)
+      (sym (left-item places place held) ∙ same ∙ left-item places other also)
 
-  -- a fact stands where an item is left
-  pub stands-left : (row : Connection) (place : ℕ) → has gone place ≡ false → Stands items row place → Stands left row place
-  stands-left row place kept (there, beside, reads) =
-      let held : isPresent left place ≡ true = except-stays (items .used) gone place (o .tidy .inside place there) there kept in
-      (held, ap (λ (item : Item). item .channel) (left-item place held) ∙ beside, reads)
+  -- ---- the items in a channel's places, of which those leave whose timestamps are of a set
 
-  -- ---- what holds a pair before and after
+  module _ (places : ℕ) (among : ℕ → Bool) (goes : (place : ℕ) → has places place ≡ true → has gone place ≡ among (at itemPlaces timestamps place))
+      (timestamp : ℕ) where
+    leaves : {place : ℕ} → Holds timestamps places timestamp place → has gone place ≡ among timestamp
+    leaves {place} h = goes place (h .there) ∙ ap among (h .timestamp-is)
 
-  module _ {channel timestamp place : ℕ} where
-    holds-still : has gone place ≡ false → Holds items channel timestamp place → Holds left channel timestamp place
-    holds-still kept h =
-        let held = except-stays (items .used) gone place (h .inside) (h .there) kept in
-        record { inside = h .inside; there = held; channel-is = rw (left-item place held) (h .channel-is); timestamp-is = rw (left-item place held) (h .timestamp-is) }
+    holds-still : {place : ℕ} → has gone place ≡ false → Holds timestamps places timestamp place → Holds left (except places gone) timestamp place
+    holds-still {place} kept h = record {
+      inside = h .inside;
+      there = except-stays places gone place (h .inside) (h .there) kept;
+      timestamp-is = kept-at itemPlaces gone timestamps sized place kept ∙ h .timestamp-is;
+    }
 
-    held-before : Holds left channel timestamp place → Holds items channel timestamp place
-    held-before h =
-        let same = left-item place (h .there) in
-        record { inside = h .inside; there = except-was (items .used) gone place (h .there); channel-is = rw same at (h .channel-is); timestamp-is = rw same at (h .timestamp-is) }
+    held-before : {place : ℕ} → Holds left (except places gone) timestamp place → Holds timestamps places timestamp place
+    held-before {place} h = record {
+      inside = h .inside;
+      there = except-was places gone place (h .there);
+      timestamp-is = sym (left-item places place (h .there)) ∙ h .timestamp-is;
+    }
 
-  -- ---- the items of a set of pairs
+    -- a timestamp that is not keeps its place
+    pub place-stays : among timestamp ≡ false → placeOf left (except places gone) timestamp ≡ placeOf timestamps places timestamp
+    place-stays stays = same-place timestamps left places (except places gone) timestamp (λ place h. holds-still (leaves h ∙ stays) h) (λ place. held-before)
 
-  module _ (pairs : ℕ → ℕ → Bool) (are : PlacesOf items pairs gone) where
-    module _ (channel timestamp : ℕ) where
-      -- what holds a pair leaves where the pair is of the set
-      goes : {place : ℕ} → Holds items channel timestamp place → pairs channel timestamp ≡ has gone place
-      goes {place} h =
-          let here = ap₂ pairs (h .channel-is) (h .timestamp-is) in
-          bool-cases (pairs channel timestamp)
-          (λ leaves. leaves ∙ sym (are place .1 (h .inside, h .there, here ∙ leaves)))
-          (λ stays. stays ∙ sym (not-then (λ held. sym here ∙ are place .0 held .2) stays))
+    -- and what stands in it stays, in any column of the items
+    pub item-stays : among timestamp ≡ false → placeOf timestamps places timestamp < itemPlaces → (column : List ℕ) → length column ≡ itemPlaces
+        → at itemPlaces (cleared itemPlaces gone column) (placeOf timestamps places timestamp) ≡ at itemPlaces column (placeOf timestamps places timestamp)
+    item-stays stays inside column long = kept-at itemPlaces gone column long _ (leaves (found-holds timestamps places timestamp inside) ∙ stays)
 
-      -- a pair that is not keeps its place
-      pub place-stays : pairs channel timestamp ≡ false → placeOf left channel timestamp ≡ placeOf items channel timestamp
-      place-stays stays = same-place items left channel timestamp (λ place h. holds-still (sym (goes h) ∙ stays) h) (λ place. held-before)
+    -- a timestamp of the set has none
+    pub none-left : among timestamp ≡ true → ltb (placeOf left (except places gone) timestamp) itemPlaces ≡ false
+    none-left goes-too =
+        bool-cases (ltb (placeOf left (except places gone) timestamp) itemPlaces)
+        (λ q. let h = found-holds left (except places gone) timestamp (ltb-true _ itemPlaces q) in
+        absurd (true-not-false (leaves (held-before h) ∙ goes-too) (except-kept places gone _ (h .there))))
+        (λ q. q)
 
-      -- which does not leave
-      found-stays : pairs channel timestamp ≡ false → has gone (placeOf items channel timestamp) ≡ false
-      found-stays stays = not-then (λ leaves. goes (found-holds items channel timestamp (are _ .0 leaves .0)) ∙ leaves) stays
-
-      -- nor does the item in it
-      pub item-stays : pairs channel timestamp ≡ false → placeOf items channel timestamp < itemPlaces
-          → itemAt left (placeOf items channel timestamp) ≡ itemAt items (placeOf items channel timestamp)
-      item-stays stays inside = left-item _ (holds-still (found-stays stays) (found-holds items channel timestamp inside) .there)
-
-      -- a pair of the set has none
-      pub none-left : pairs channel timestamp ≡ true → ltb (placeOf left channel timestamp) itemPlaces ≡ false
-      none-left leaves =
-          bool-cases (ltb (placeOf left channel timestamp) itemPlaces)
-          (λ q. let h = found-holds left channel timestamp (ltb-true _ itemPlaces q) in
-          absurd (true-not-false leaves (goes (held-before h) ∙ except-kept (items .used) gone _ (h .there))))
-          (λ q. q)
-
-    -- a state stays where its item does, and without one the mark decides
-    pub state-left : (row : Connection) (timestamp : ℕ) → state left (cleared row gone) timestamp
-        ≡ cond (pairs (row .channel) timestamp) (cond (ltb timestamp (row .mark)) Consumed Absent) (state items row timestamp)
-    unfolding state cleared
-    state-left row timestamp =
-        bool-cases (pairs (row .channel) timestamp)
-        (λ leaves. rw leaves (state-absent (cleared row gone) timestamp _ (ltb-false _ itemPlaces (none-left (row .channel) timestamp leaves))))
-        (λ stays. rw (stays, place-stays (row .channel) timestamp stays) (cleared-kept row timestamp _ gone (found-stays (row .channel) timestamp stays)))
+-- a state stays where its item does, and without one the mark decides
+module _ (timestamps : List ℕ) (sized : length timestamps ≡ itemPlaces) (gone : ℕ) (connection : Connection) (among : ℕ → Bool)
+    (goes : (place : ℕ) → has (connection .items) place ≡ true → has gone place ≡ among (at itemPlaces timestamps place)) (timestamp : ℕ) where
+  pub state-left : state (cleared itemPlaces gone timestamps) (Row.cleared connection gone) timestamp
+      ≡ cond (among timestamp) (cond (ltb timestamp (connection .mark)) Consumed Absent) (state timestamps connection timestamp)
+  unfolding state Row.cleared
+  state-left =
+      let places : ℕ = connection .items in
+      let place : ℕ = placeOf timestamps places timestamp in
+      let after : Connection = Row.cleared connection gone in
+      bool-cases (among timestamp)
+      (λ goes-too. rw goes-too (state-absent after timestamp _ (ltb-false _ itemPlaces (none-left timestamps sized gone places among goes timestamp goes-too))))
+      (λ stays. rw (stays, place-stays timestamps sized gone places among goes timestamp stays)
+      (elim (decLt place itemPlaces) [
+        | yes inside ↦ (let h = found-holds timestamps places timestamp inside in
+            cleared-kept connection timestamp place gone (leaves timestamps sized gone places among goes timestamp h ∙ stays))
+        | no past ↦ state-absent after timestamp place (omega arith) ∙ sym (state-absent connection timestamp place (omega arith))
+      ]))

@@ -1,72 +1,59 @@
--- Document 01, "Sweeps", and the rows that an end frees. Assumes nothing.
-use mathlib.Core.Bool.{Bool, cond, _&&_}
+-- Document 01, "Sweeps", and the places that a detach and an end free: the columns afterwards. Assumes nothing.
+use mathlib.Core.Bool.{Bool, cond, not, true, _&&_}
 use mathlib.Core.List.{List, [], _∷_, _++_}
-use Prim.Native.Nat.{ℕ, zero, suc}
+use Prim.Native.Nat.{ℕ, zero, suc, max}
 use lib.Dec.{eqb, leb, ltb}
-use lib.ListN.{drop, getD, length}
-use Rattle.words.specs.Places.{wordOf}
-use Rattle.words.specs.Words.{count, has}
-use Rattle.rows.specs.declared.Connection.{Connection}
-use Rattle.rows.specs.declared.Item.{Item}
-use Rattle.rows.specs.declared.Found.{Found}
-use Rattle.rows.specs.Numbers.{noConnection, noItem, input}
-use Rattle.rows.specs.Facts.{cleared, raised}
-use Rattle.rows.specs.Choices.{before, ticketOf, leftOver}
-use Rattle.tables.specs.Tables.{Table, connectionAt, itemAt, isPresent, isConnection, owns, connectionPlaces, itemPlaces}
+use lib.ListN.{drop, length, set}
+use Rattle.words.specs.Places.{each, lowestOf, wordOf}
+use Rattle.words.specs.Words.{both, count, except, has, without}
+use Rattle.rows.specs.Choices.{placeFound, takenBefore}
+use Rattle.calls.specs.declared.Which.the-variants.{Earliest}
+use Rattle.tables.specs.Columns.{at, channelPlaces, connectionPlaces, itemPlaces}
 use Rattle.tables.specs.Search.{chosen}
 
--- the rows of a table of n places, by a rule for each place
-unfoldable pub rowsOf : {A : Type 0} → (ℕ → A) → ℕ → List A
-rowsOf rule zero = []
-rowsOf rule (suc n) = rule 0 ∷ rowsOf (λ i. rule (suc i)) n
+-- a column of so many places, changed by a rule in the places that pass the test
+unfoldable pub changed : ℕ → (ℕ → Bool) → (ℕ → ℕ) → List ℕ → List ℕ
+changed places test rule column = each places test (λ place numbers. set numbers place (rule (at places numbers place))) column
 
--- "Every present item with a smaller timestamp leaves the desk."
-unfoldable pub isBelow : Table Item → ℕ → ℕ → Bool
-isBelow items bound p = isPresent items p && ltb (itemAt items p .timestamp) bound
+-- "A free place holds zeros only.": the column once some places are freed
+abbrev pub cleared : ℕ → ℕ → List ℕ → List ℕ
+cleared places gone column = changed places (has gone) (λ number. 0) column
 
-unfoldable pub itemsBelow : Table Item → ℕ → ℕ
-itemsBelow items bound = wordOf (isBelow items bound) itemPlaces
-
--- of the items in some places, the first "by channel number, then timestamp"
-unfoldable pub firstOf : List Item → ℕ → Found
-firstOf rows places = chosen rows before (has places)
-
--- the tickets of n items in some places, "by channel number, then timestamp"
-unfoldable pub ticketsInLine : List Item → ℕ → ℕ → List ℕ
-ticketsInLine rows zero places = []
-ticketsInLine rows (suc n) places = ticketOf (firstOf rows places) ∷ ticketsInLine rows n (leftOver places (firstOf rows places))
-
--- "Tickets go to the front of the slice by channel number, then timestamp; the rest of the slice is untouched." A shorter slice is left as it was.
-unfoldable pub handedBack : List Item → ℕ → List ℕ → List ℕ
-handedBack rows gone slice =
-    cond (leb (count gone) (length slice)) (ticketsInLine rows (count gone) gone ++ drop (count gone) slice) slice
-
--- the places of the items that left hold zeros
-unfoldable pub clearedItems : List Item → ℕ → List Item
-clearedItems rows gone = rowsOf (λ p. cond (has gone p) noItem (getD rows p noItem)) itemPlaces
-
--- the connections' rows with another row for every connection, by a rule
-unfoldable pub changedConnections : Table Connection → (Connection → Connection) → List Connection
-changedConnections connections rule =
-    rowsOf
-    (λ k. cond (isConnection connections k) (rule (connectionAt connections k)) (connectionAt connections k))
-    connectionPlaces
-
--- "When an item leaves the desk, both are cleared for its place on every connection."
-abbrev pub clearedConnections : Table Connection → ℕ → List Connection
-clearedConnections connections gone = changedConnections connections (λ row. cleared row gone)
+-- "both are cleared for its place on every connection": every word of the column without some places
+abbrev pub lessened : ℕ → ℕ → List ℕ → List ℕ
+lessened places gone column = changed places (λ place. true) (λ word. except word gone) column
 
 -- "On every input connection the mark then becomes the larger of itself and the bound."
-abbrev pub raisedInput : Connection → ℕ → Connection
-raisedInput row bound = cond (eqb (row .direction) input) (raised row bound) row
+abbrev pub raised : ℕ → ℕ → List ℕ → List ℕ
+raised inputs bound marks = changed connectionPlaces (has inputs) (λ mark. max mark bound) marks
 
-abbrev pub raisedConnections : Table Connection → ℕ → List Connection
-raisedConnections connections bound = changedConnections connections (λ row. raisedInput row bound)
+-- "Every present item with a smaller timestamp leaves the desk."
+unfoldable pub isBelow : List ℕ → ℕ → ℕ → ℕ → Bool
+isBelow timestamps present bound place = has present place && ltb (at itemPlaces timestamps place) bound
 
--- the places of a thread's connections
-unfoldable pub ownedBy : Table Connection → ℕ → ℕ
-ownedBy connections t = wordOf (owns connections t) connectionPlaces
+unfoldable pub itemsBelow : List ℕ → ℕ → ℕ → ℕ
+itemsBelow timestamps present bound = wordOf (isBelow timestamps present bound) itemPlaces
 
--- freed places hold zeros
-unfoldable pub freedConnections : List Connection → ℕ → List Connection
-freedConnections rows gone = rowsOf (λ k. cond (has gone k) noConnection (getD rows k noConnection)) connectionPlaces
+-- the lowest channel that holds an item in one of the places; the number of channels where none does
+abbrev pub holdsOne : List ℕ → ℕ → ℕ → Bool
+holdsOne held places channel = not (eqb (both (at channelPlaces held channel) places) 0)
+
+unfoldable pub firstChannel : List ℕ → ℕ → ℕ
+firstChannel held places = lowestOf (holdsOne held places) channelPlaces
+
+-- of the items in some places, the place of the first "by channel number, then timestamp"
+unfoldable pub firstPlace : List ℕ → List ℕ → ℕ → ℕ
+firstPlace timestamps held places =
+    placeFound (chosen timestamps (takenBefore Earliest) (has (both (at channelPlaces held (firstChannel held places)) places)))
+
+-- the tickets of n items in some places, "by channel number, then timestamp"
+unfoldable pub ticketsInLine : List ℕ → List ℕ → List ℕ → ℕ → ℕ → List ℕ
+ticketsInLine timestamps tickets held zero places = []
+ticketsInLine timestamps tickets held (suc n) places =
+    at itemPlaces tickets (firstPlace timestamps held places)
+    ∷ ticketsInLine timestamps tickets held n (without places (firstPlace timestamps held places))
+
+-- "Tickets go to the front of the slice by channel number, then timestamp; the rest of the slice is untouched." A shorter slice is left as it was.
+unfoldable pub handedBack : List ℕ → List ℕ → List ℕ → ℕ → List ℕ → List ℕ
+handedBack timestamps tickets held gone slice =
+    cond (leb (count gone) (length slice)) (ticketsInLine timestamps tickets held (count gone) gone ++ drop (count gone) slice) slice

@@ -34,7 +34,7 @@ fn chosen(desk: Desk, thread: u32, connection: u32, number: u32, timestamp: u32)
     desk.get(thread, connection, which_of(number, timestamp))
 }
 
-// The three gets are this one. A by-value call with one caller is compiled into it, and then copies one table and not the desk.
+// The three gets are this one. A by-value call with one caller is compiled into it, and then copies columns and not the desk.
 fn get(desk: &mut Desk, thread: u32, connection: u32, number: u32, timestamp: u32) -> Answer
     ensures { λ r. ⌜ lentBack r (now (desk .exit)) ≡ step (now (desk .entry)) (get thread connection (whichOf number timestamp)) ⌝ }
 {

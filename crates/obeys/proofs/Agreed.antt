@@ -1,17 +1,17 @@
--- The checks of each call agree with the refusals that the view names: check by check, what the tables say is what the view says. Assumes nothing.
-use Rattle.obeys.proofs.Basis.{_∙_, _≡_, ap, refl, subst, sym, false, true, _⊎_, inl, inr, ⊎-elim, Option·none-ne-some, Option·some-injective, none, List, _<_, _≤_, ℕ, arith, eqb, ltb, length, eq-eqb, leb-false, leb-true}
-use Rattle.obeys.proofs.Basis.{ltb-false, ltb-true, count, has, lowestFree, count-le, free-below, free-lacks, Call, by, sweep, isOpen, Strong, Weak, AttachInput, AttachOutput, Channel, Consume, ConsumeUntil, Detach, End}
-use Rattle.obeys.proofs.Basis.{Get, NewThread, Put, Set, State, Which, Earliest, Latest, Named, inward, never, outward, Found, At, Nothing, true-not-false, placeOf, state, connectionAt, inUse, isConnection, isInput}
-use Rattle.obeys.proofs.Basis.{isLiving, used-below, itemsBelow, channel-exists, checks, connection-goes, connection-owned, isFound, item-fits, item-found, item-open, place-free, slice-long, soughtBy, thread-lives}
-use Rattle.obeys.proofs.Basis.{time-visible, timestamp-absent, which-given, connectionsOf, itemsOf, threadsOf, strongBound, visibleTime, weakBound, Desk, Connection, FreeChannel, FreeConnection, FreeThread, Listed, Lowest}
+-- The checks of each call agree with the refusals that the view names: check by check, what the columns say is what the view says. Assumes nothing.
+use Rattle.obeys.proofs.Basis.{_∙_, _≡_, ap, refl, subst, sym, false, true, Option·none-ne-some, Option·some-injective, List, _<_, _≤_, ℕ, arith, ltb, length, leb-false, leb-true}
+use Rattle.obeys.proofs.Basis.{ltb-false, ltb-true, count, has, lowestFree, wordPlaces, count-le, free-below, free-lacks, Call, by, sweep, isOpen, Strong, Weak, AttachInput, AttachOutput, Channel, Consume, ConsumeUntil, Detach, End}
+use Rattle.obeys.proofs.Basis.{Get, NewThread, Put, Set, State, Which, Earliest, Latest, Named, never, Found, At, Nothing, isFound, true-not-false, placeOf, state, inUse, channelPlaces, connectionPlaces, itemPlaces, threadPlaces}
+use Rattle.obeys.proofs.Basis.{attached, connectionAt, isInput, isLiving, isOutput, itemsIn, leadsTo, used-below, leaving, channel-exists, checks, connection-owned, connection-reads, connection-writes, item-fits, item-found, item-open}
+use Rattle.obeys.proofs.Basis.{place-free, slice-long, soughtBy, thread-lives, time-visible, timestamp-absent, which-given, strongBound, visibleTime, weakBound, Desk, FreeChannel, FreeConnection, FreeThread, Listed, Lowest}
 use Rattle.obeys.proofs.Basis.{desk-full, inputFrom, named-never, no-channel, no-input, no-output, no-thread, not-its-own, not-open, nothing-unseen, outputTo, rule, slice-short, stateOn, table-full, taken, too-early}
-use Rattle.obeys.proofs.Basis.{unused, DeskInOrder, viewOf, needs, refusal, refuse, itemPlaces, TakesUnseen, is-open, in-use, in-use-has, owned-used, used-reads, found-holds}
+use Rattle.obeys.proofs.Basis.{DeskInOrder, viewOf, needs, refusal, refuse, TakesUnseen, is-open, in-use, found-holds}
 use Rattle.rules.specs.Rules as Rules
 use Rattle.rules.proofs.OneList.{listed-one}
 use Rattle.obeys.proofs.Bounds.{visible, weak, strong}
 use Rattle.obeys.proofs.Found.{takes, takes-none}
 use Rattle.obeys.proofs.Listed.{below, listed, present, present-listed}
-use Rattle.obeys.proofs.Lookup.{lives-view, dead-view, unused-view, owned-view, view-owned, input-view, item-view, no-item-view, writes-view, used-not-free}
+use Rattle.obeys.proofs.Lookup.{lives-view, dead-view, unused-view, used-not-free, owned-view, view-owned, input-view, no-input-view, output-view, no-output-view, state-view, item-view, no-item-view}
 use Rattle.obeys.proofs.Frame.{Matches, Agree, plain, check}
 use Rattle.rules.proofs.Laws.{smallest-one}
 
@@ -19,18 +19,18 @@ use Rattle.rules.proofs.Laws.{smallest-one}
 
 -- what a table's word says of the numbers that are free in the view
 pub record Frees (w places : ℕ) (Free : ℕ → Type 0) : Type 0 where
-  pub fits : places ≤ 64
+  pub fits : places ≤ wordPlaces
   pub unused : (n : ℕ) → inUse w n places ≡ false → Free n
   pub used : (n : ℕ) → inUse w n places ≡ true → Free n → ⊥
 
-pub threads-free : (d : Desk) → Frees (d .living) 16 (FreeThread (viewOf d))
+pub threads-free : (d : Desk) → Frees (d .living) threadPlaces (FreeThread (viewOf d))
 threads-free d = record { fits = omega arith; unused = dead-view d; used = λ n lives free. Option·none-ne-some _ (sym free ∙ lives-view d n lives) }
 
-pub channels-free : (d : Desk) → Frees (d .channels) 8 (FreeChannel (viewOf d))
+pub channels-free : (d : Desk) → Frees (d .channels) channelPlaces (FreeChannel (viewOf d))
 unfolding viewOf
 channels-free d = record { fits = omega arith; unused = λ n free. free; used = λ n there. true-not-false there }
 
-pub connections-free : (d : Desk) → Frees (d .attached) 32 (FreeConnection (viewOf d))
+pub connections-free : (d : Desk) → Frees (attached d) connectionPlaces (FreeConnection (viewOf d))
 connections-free d = record { fits = omega arith; unused = unused-view d; used = used-not-free d }
 
 module _ {w places : ℕ} {Free : ℕ → Type 0} (f : Frees w places Free) where
@@ -52,16 +52,10 @@ module _ {w places : ℕ} {Free : ℕ → Type 0} (f : Frees w places Free) wher
       (λ e case. case (lowestFree w) (ltb-true (lowestFree w) places e) (lowest-is e))
 
 module _ (d : Desk) (o : DeskInOrder d) where
-  -- one of the two directions
-  other-way : (connection : ℕ) → isConnection (connectionsOf d) connection ≡ true
-      → (eqb (connectionAt (connectionsOf d) connection .direction) inward ≡ true) ⊎ (eqb (connectionAt (connectionsOf d) connection .direction) outward ≡ true)
-  other-way connection used =
-      ⊎-elim (λ e. inl (eq-eqb _ inward e)) (λ e. inr (eq-eqb _ outward e)) (o .attached connection (in-use-has (d .attached) connection 32 used) .direction)
-
   -- ---- check by check
 
   not-found : (found : Found) → isFound found ≡ false → found ≡ Nothing
-  not-found (At place item) e = absurd (true-not-false {b = true} refl e)
+  not-found (At place timestamp) e = absurd (true-not-false {b = true} refl e)
   not-found Nothing e = refl
 
   pub agree-thread : (thread : ℕ) → Matches (thread-lives d thread) (no-thread (viewOf d) thread)
@@ -73,19 +67,15 @@ module _ (d : Desk) (o : DeskInOrder d) where
 
   agree-owned : (thread connection : ℕ) → Matches (connection-owned d thread connection) (not-its-own (viewOf d) thread connection)
   agree-owned thread connection =
-      plain _ 3 _ (λ e own. true-not-false (view-owned d connection thread own) e) (λ e case. case (owned-view d connection thread e))
+      plain _ 3 _ (λ e own. true-not-false (view-owned d o connection thread own) e) (λ e case. case (owned-view d o connection thread e))
 
-  agree-output : (connection : ℕ) → isConnection (connectionsOf d) connection ≡ true → Matches (connection-goes d connection outward) (no-output (viewOf d) connection)
-  agree-output connection used =
-      plain _ 4 _
-      (λ e. ⊎-elim (λ reads. ap outputTo (input-view d connection (used-reads (connectionsOf d) connection used reads))) (λ writes. absurd (true-not-false writes e)) (other-way connection used))
-      (λ e case. Option·none-ne-some _ (sym case ∙ ap outputTo (writes-view d connection used e)))
+  agree-output : (connection : ℕ) → Matches (connection-writes d connection) (no-output (viewOf d) connection)
+  agree-output connection =
+      plain _ 4 _ (no-output-view d connection) (λ e case. Option·none-ne-some _ (sym case ∙ ap outputTo (output-view d o connection e)))
 
-  pub agree-input : (connection : ℕ) → isConnection (connectionsOf d) connection ≡ true → Matches (connection-goes d connection inward) (no-input (viewOf d) connection)
-  agree-input connection used =
-      plain _ 4 _
-      (λ e. ⊎-elim (λ reads. absurd (true-not-false reads e)) (λ writes. ap inputFrom (writes-view d connection used writes)) (other-way connection used))
-      (λ e case. Option·none-ne-some _ (sym case ∙ ap inputFrom (input-view d connection (used-reads (connectionsOf d) connection used e))))
+  pub agree-input : (connection : ℕ) → Matches (connection-reads d connection) (no-input (viewOf d) connection)
+  agree-input connection =
+      plain _ 4 _ (no-input-view d connection) (λ e case. Option·none-ne-some _ (sym case ∙ ap inputFrom (input-view d connection e)))
 
   -- 5 is one of these
   pub agree-below : (code number bound : ℕ) → Matches (needs (ltb number bound) (refusal code)) (refuse code (bound ≤ number))
@@ -96,21 +86,20 @@ module _ (d : Desk) (o : DeskInOrder d) where
   agree-which Latest = plain true 5 _ (λ e. absurd (true-not-false {b = true} refl e)) (λ e none. none)
   agree-which (Named timestamp) = agree-below 5 timestamp never
 
-  agree-visible : (thread time : ℕ) → isLiving (threadsOf d) thread ≡ true → Matches (time-visible d thread time) (too-early (viewOf d) thread time)
+  agree-visible : (thread time : ℕ) → isLiving d thread ≡ true → Matches (time-visible d thread time) (too-early (viewOf d) thread time)
   agree-visible thread time lives =
       plain _ 6 _
       (λ e. (visibleTime d thread, visible d o thread lives, leb-false (visibleTime d thread) time e))
       (λ e (bound, is, below). omega (arith, leb-true (visibleTime d thread) time e, smallest-one is (visible d o thread lives)))
 
-  agree-absent : (connection timestamp : ℕ) → isConnection (connectionsOf d) connection ≡ true
-      → eqb (connectionAt (connectionsOf d) connection .direction) outward ≡ true
+  agree-absent : (connection timestamp : ℕ) → isOutput d connection ≡ true
       → Matches (timestamp-absent d connection timestamp) (taken (viewOf d) connection timestamp)
-  agree-absent connection timestamp used goes =
-      let channel : ℕ = connectionAt (connectionsOf d) connection .channel in
-      let writes = ap outputTo (writes-view d connection used goes) in
-      let place : ℕ = placeOf (itemsOf d) channel timestamp in
+  agree-absent connection timestamp goes =
+      let channel : ℕ = leadsTo d connection in
+      let writes = ap outputTo (output-view d o connection goes) in
+      let place : ℕ = placeOf (d .timestamps) (itemsIn d channel) timestamp in
       plain _ 7 _
-      (λ e. (channel, _, writes, item-view d o (found-holds (itemsOf d) channel timestamp (leb-false itemPlaces place e))))
+      (λ e. (channel, _, writes, item-view d o channel (found-holds (d .timestamps) (itemsIn d channel) timestamp (leb-false itemPlaces place e))))
       (λ e (to, ticket, into, there).
       let same : channel ≡ to = Option·some-injective channel to (sym writes ∙ into) in
       Option·none-ne-some ticket (sym (no-item-view d channel timestamp (leb-true itemPlaces place e)) ∙ rw same there))
@@ -119,13 +108,13 @@ module _ (d : Desk) (o : DeskInOrder d) where
   unfolding count
   agree-fits =
       plain _ 8 _
-      (λ e. let many : 64 ≤ count (d .present) = ltb-false (count (d .present)) 64 e in
-      let most : count (d .present) ≤ 64 = count-le (has (d .present)) 64 in
+      (λ e. let many : itemPlaces ≤ count (d .present) = ltb-false (count (d .present)) itemPlaces e in
+      let most : count (d .present) ≤ itemPlaces = count-le (has (d .present)) itemPlaces in
       (present d o .items, present-listed d o, omega (arith, present d o .counts)))
       (λ e (items, those, full). let same : length items ≡ length (present d o .items) = ap length (listed-one those (present-listed d o)) in
-      omega (arith, present d o .counts, ltb-true (count (d .present)) 64 e))
+      omega (arith, present d o .counts, ltb-true (count (d .present)) itemPlaces e))
 
-  agree-found : (connection : ℕ) (which : Which) → isInput (connectionsOf d) connection ≡ true
+  agree-found : (connection : ℕ) (which : Which) → isInput d connection ≡ true
       → Matches (item-found d connection which) (nothing-unseen (viewOf d) connection which)
   agree-found connection which reads =
       plain _ 10 _
@@ -134,14 +123,14 @@ module _ (d : Desk) (o : DeskInOrder d) where
     where
       go : (found : Found) → soughtBy d connection which ≡ found → isFound found ≡ true
           → ((timestamp : ℕ) → TakesUnseen (viewOf d) connection which timestamp → ⊥) → ⊥
-      go (At place item) e found case = case (item .timestamp) (takes d o connection reads which place item e)
+      go (At place timestamp) e found case = case timestamp (takes d o connection reads which place timestamp e)
       go Nothing e found case = true-not-false found refl
 
-  agree-open : (connection timestamp : ℕ) → isInput (connectionsOf d) connection ≡ true
+  agree-open : (connection timestamp : ℕ) → isInput d connection ≡ true
       → Matches (item-open d connection timestamp) (not-open (viewOf d) connection timestamp)
   agree-open connection timestamp reads =
-      let s : State = state (itemsOf d) (connectionAt (connectionsOf d) connection) timestamp in
-      let on : stateOn (viewOf d .connection connection) timestamp ≡ s = ap (λ (c : Connection). stateOn c timestamp) (input-view d connection reads) in
+      let s : State = state (d .timestamps) (connectionAt d connection) timestamp in
+      let on : stateOn (viewOf d .connection connection) timestamp ≡ s = state-view d connection timestamp reads in
       plain _ 11 _
       (λ e is. true-not-false (ap isOpen (sym on ∙ is)) e)
       (λ e case. case (on ∙ is-open s e))
@@ -152,17 +141,18 @@ module _ (d : Desk) (o : DeskInOrder d) where
   agree-slice Bound bound slice is one = record {
     code = refl;
     fails = λ e. (
-      (bound, below d o bound .items, is, listed d o bound, omega (arith, below d o bound .counts, leb-false (count (itemsBelow (itemsOf d) bound)) (length slice) e)),
+      (bound, below d o bound .items, is, listed d o bound, omega (arith, below d o bound .counts, leb-false (count (leaving d bound)) (length slice) e)),
       sym (below d o bound .counts),
       refl,
     );
     holds = λ e (b, items, is-b, those, short).
-        let same : length items ≡ length (below d o bound .items) = ap length (listed-one (subst (λ (x : ℕ). Listed (viewOf d) (Rules.below x) items) (one b is-b) those) (listed d o bound)) in
-        omega (arith, below d o bound .counts, leb-true (count (itemsBelow (itemsOf d) bound)) (length slice) e);
+        let its : Listed (viewOf d) (Rules.below bound) items = subst (λ (x : ℕ). Listed (viewOf d) (Rules.below x) items) (one b is-b) those in
+        let same : length items ≡ length (below d o bound .items) = ap length (listed-one its (listed d o bound)) in
+        omega (arith, below d o bound .counts, leb-true (count (leaving d bound)) (length slice) e);
   }
 
   -- how each check agrees with its refusal, where those before it hold; one that compares two numbers needs no word here
-  ruleset agreements = (check, agree-below, agree-thread, agree-channel, agree-owned, agree-output, agree-input, agree-which, agree-visible, agree-absent, agree-fits, agree-found, agree-open, agree-free, threads-free, channels-free, connections-free, owned-used, used-reads)
+  ruleset agreements = (check, agree-below, agree-thread, agree-channel, agree-owned, agree-output, agree-input, agree-which, agree-visible, agree-absent, agree-fits, agree-found, agree-open, agree-free, threads-free, channels-free, connections-free)
 
   pub agree : (call : Call) → Agree (checks d call) (rule (viewOf d) call .refusals)
   unfolding checks

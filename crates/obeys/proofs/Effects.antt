@@ -1,104 +1,132 @@
--- The view after each effect that changes one thread, one channel or one connection, by what a table then says of each number. Assumes nothing.
-use Rattle.obeys.proofs.Basis.{_∙_, _≡_, ap, refl, sym, cond, false, true, Option, none, some, List, _<_, _≤_, ℕ, ℕ-discrete, arith, eqb, getD, length, set, getD-set-other, getD-set-same, eq-eqb, ne-eqb, has, with, inward}
-use Rattle.obeys.proofs.Basis.{noConnection, noThread, Row, Item, Thread, inUse, owns, Table, connectionAt, isConnection, freedConnections, ownedBy, ended, freeChannel, connectionsOf, itemsOf, withChannels, withThreads}
-use Rattle.obeys.proofs.Basis.{Desk, Connection, at, freedFrom, unused, withChannel, withThread, DeskInOrder, viewOf, connectionOf, bool-cases, has-wordOf-in, with-same, without-same, Elsewhere, with-elsewhere}
-use Rattle.obeys.proofs.Basis.{without-elsewhere, except-stays, used-below, in-use, in-use-has, used-inside, in-use-elsewhere, in-use-except, thinned-row}
-use Rattle.rules.specs.Rules.{withConnection, withConnections}
-use Rattle.desk.specs.Desk as Desks
+-- The view after a new channel, another virtual time of a thread, and an attach, by what the words and columns then say of each number. Assumes nothing.
+use Rattle.obeys.proofs.Basis.{_<_, _∙_, _≡_, _≢_, _≤_, Bool, Connection, Desk, DeskInOrder, Elsewhere, Option, ap, arith, at, at-set-other, at-set-same}
+use Rattle.obeys.proofs.Basis.{attached, attachedTo, channelPlaces, cond, connectionAt, connectionPlaces, eq-eqb, false, firstSeen, free-lacks}
+use Rattle.obeys.proofs.Basis.{freeChannel, freeConnection, has, in-use, in-use-elsewhere, inUse, input, isInput, isOutput, itemOf, leadsTo, length}
+use Rattle.obeys.proofs.Basis.{lowest-with, ne-eqb, none, numberAt, output, ownedBy, ownerOf, refl, set, some, threadPlaces, ticketAt, true, used-below}
+use Rattle.obeys.proofs.Basis.{viewOf, with, with-elsewhere, with-same, with-was, withChannel, withChannels, withThread, withThreads, wordPlaces, ℕ}
+use Rattle.obeys.proofs.Basis.{ℕ-discrete}
+use Rattle.words.proofs.Changes.{with-stays}
+use Rattle.tables.proofs.At.{at-set-has}
+use Rattle.tables.proofs.Shared.{shared-joins}
+use Rattle.rules.specs.Rules as Rules
 use Rattle.obeys.proofs.Frame.{view-ext}
-use Rattle.obeys.proofs.Lookup.{unused-view, used-view}
+use Rattle.obeys.proofs.Lookup.{input-view}
+use Rattle.obeys.proofs.Order.Connections.{in-word, no-input, owned-in-word, reading-elsewhere, writing-elsewhere}
+use Rattle.obeys.proofs.Rows.{row-attached}
+use Rattle.obeys.proofs.Shown.{Alike, one-connection, shown}
 
--- ---- what a table says of each number
+-- ---- a channel, and a thread
 
-in-use-with : (used p n places : ℕ) → p < places → places ≤ 64 → inUse (with used p) n places ≡ at (λ i. inUse used i places) p true n
+in-use-with : (used p n places : ℕ) → p < places → places ≤ wordPlaces → inUse (with used p) n places ≡ at (λ i. inUse used i places) p true n
 in-use-with used p n places inside fits =
     elim (ℕ-discrete n p) [
       | yes same ↦ rw (same, eq-eqb p p refl) (in-use (with used p) p places inside (with-same used (omega arith)))
       | no apart ↦ rw (ne-eqb n p apart) (in-use-elsewhere (with-elsewhere used p) n places fits apart)
     ]
 
-module _ {A B : Type 0} (f : A → B) (nothing : B) (zeros : A) (places : ℕ) where
-  abbrev look : ℕ → List A → ℕ → B
-  look used rows n = cond (inUse used n places) (f (getD rows n zeros)) nothing
+module _ (d : Desk) where
+  pub view-channel : freeChannel d < channelPlaces → viewOf (withChannels d (with (d .channels) (freeChannel d))) ≡ withChannel (viewOf d) (freeChannel d)
+  unfolding viewOf ownerOf
+  view-channel free = view-ext (λ t. refl) (λ c. in-use-with (d .channels) (freeChannel d) c channelPlaces free (omega arith)) (λ k. refl) (λ c t. refl)
 
-  -- another row in one place, which is used, or becomes so, or becomes free
-  look-set : places ≤ 64 → {word used p : ℕ} → Elsewhere word used p → p < places → (rows : List A) → length rows ≡ places → (row : A) (new : B)
-      → cond (has word p) (f row) nothing ≡ new → (n : ℕ) → look word (set rows p row) n ≡ at (look used rows) p new n
-  look-set fits {word} {used} {p} else inside rows sized row new here n =
-      elim (ℕ-discrete n p) [
-        | yes same ↦ rw (same, eq-eqb p p refl, used-below word inside, getD-set-same rows p row zeros (omega arith)) here
-        | no apart ↦ rw (ne-eqb n p apart, in-use-elsewhere else n places fits apart, getD-set-other rows p n row zeros apart)
-      ]
+  -- another virtual time for a thread: a new one, one less, or another time
+  pub view-thread : {living : ℕ} (thread time : ℕ) (new : Option ℕ)
+      → Elsewhere living (d .living) thread → thread < threadPlaces → length (d .times) ≡ threadPlaces → cond (has living thread) (some time) none ≡ new
+      → viewOf (withThreads d living (set (d .times) thread time)) ≡ withThread (viewOf d) thread new
+  unfolding viewOf ownerOf
+  view-thread {living} thread time new else inside sized here = view-ext threads (λ c. refl) (λ k. refl) (λ c t. refl)
+    where
+      threads : (n : ℕ) → cond (inUse living n threadPlaces) (some (numberAt threadPlaces (set (d .times) thread time) n)) none
+          ≡ at (λ t. cond (inUse (d .living) t threadPlaces) (some (numberAt threadPlaces (d .times) t)) none) thread new n
+      threads n =
+          elim (ℕ-discrete n thread) [
+            | yes same ↦ rw (same, eq-eqb thread thread refl, used-below living inside, at-set-same threadPlaces (d .times) thread time inside sized) here
+            | no apart ↦ rw (
+              ne-eqb n thread apart,
+              in-use-elsewhere else n threadPlaces (omega arith) apart,
+              at-set-other threadPlaces (d .times) thread time n apart,
+            )
+          ]
 
--- ---- the view
-
-abbrev virtual : Thread → Option ℕ
-virtual row = some (row .time)
+-- ---- a new connection
 
 module _ (d : Desk) (o : DeskInOrder d) where
-  pub view-channel : freeChannel d < 8 → viewOf (withChannels d (with (d .channels) (freeChannel d))) ≡ withChannel (viewOf d) (freeChannel d)
-  unfolding viewOf
-  view-channel free = view-ext (λ t. refl) (λ c. in-use-with (d .channels) (freeChannel d) c 8 free (omega arith)) (λ k. refl) (λ c t. refl)
+  module _ (reads : Bool) (thread channel mark : ℕ) (lives : thread < threadPlaces) (free : freeConnection d < connectionPlaces) where
+    abbrev new : ℕ
+    new = freeConnection d
 
-  -- another row for a thread or a connection: a new one, one less, or another in its place
-  pub view-thread : {living : ℕ} (thread : ℕ) (row : Thread) (time : Option ℕ) → Elsewhere living (d .living) thread → thread < 16
-      → cond (has living thread) (virtual row) none ≡ time → viewOf (withThreads d living (set (d .threads) thread row)) ≡ withThread (viewOf d) thread time
-  unfolding viewOf
-  view-thread thread row time else inside here =
-      view-ext (look-set virtual none noThread 16 (omega arith) else inside (d .threads) (o .threads .sized) row time here) (λ c. refl) (λ k. refl) (λ c t. refl)
+    abbrev more : Desk
+    more = attachedTo d reads thread channel mark
 
-  pub view-connection : {attached : ℕ} (connection : ℕ) (row : Row) (new : Connection) → Elsewhere attached (d .attached) connection → connection < 32
-      → cond (has attached connection) (connectionOf (itemsOf d) row) unused ≡ new
-      → viewOf (Desks.withConnections d attached (set (d .connections) connection row)) ≡ withConnection (viewOf d) connection new
-  unfolding viewOf
-  view-connection connection row new else inside here =
-      view-ext (λ t. refl) (λ c. refl)
-      (look-set (connectionOf (itemsOf d)) unused noConnection 32 (omega arith) else inside (d .connections) (o .connections .sized) row new here) (λ c t. refl)
+    lacks : has (attached d) new ≡ false
+    lacks = free-lacks (attached d) (omega arith)
 
-  -- ---- an end
+    beside : (k : ℕ) → k ≢ new → Alike d more k
+    unfolding attachedTo
+    beside k apart = record {
+      reads = used-still (reading-elsewhere (o .connections) new free lacks reads);
+      writes = used-still (writing-elsewhere (o .connections) new free lacks reads);
+      owner = at-set-has threadPlaces (d .owned) thread (with (ownedBy d thread) new) lives (o .threads .owned .sized) k
+          (with-was (ownedBy d thread) new k apart) (λ its. with-stays (ownedBy d thread) new k (owned-in-word (o .connections) thread k its) its);
+      channel = leads;
+      timestamps = refl;
+      row = rw (leads, at-set-other connectionPlaces (d .marks) new mark k apart);
+    }
+      where
+        used-still : {word used : ℕ} → Elsewhere word used new → inUse word k connectionPlaces ≡ inUse used k connectionPlaces
+        used-still else = in-use-elsewhere else k connectionPlaces (omega arith) apart
 
-  freed-from : (thread : ℕ) (items : Table Item) (row : Row) → freedFrom thread (connectionOf items row) ≡ cond (eqb (row .thread) thread) unused (connectionOf items row)
-  freed-from thread items row = bool-cases (eqb (row .direction) inward) (λ e. rw e) (λ e. rw e)
+        leads : numberAt connectionPlaces (set (d .leads) new channel) k ≡ leadsTo d k
+        leads = at-set-other connectionPlaces (d .leads) new channel k apart
 
-  module _ (thread connection : ℕ) where
-    abbrev gone : ℕ
-    gone = ownedBy (connectionsOf d) thread
+    new-owner : ownerOf more new ≡ thread
+    unfolding ownerOf attachedTo
+    new-owner =
+        lowest-with (shared-joins (o .connections .owned) (in-word (o .connections)) (o .threads .owned .sized) thread lives new (omega arith) lacks) thread new
+        (ap (λ (word : ℕ). has word new) (at-set-same threadPlaces (d .owned) thread (with (ownedBy d thread) new) lives (o .threads .owned .sized))
+        ∙ with-same (ownedBy d thread) (omega arith))
 
-    abbrev row : Row
-    row = connectionAt (connectionsOf d) connection
+    new-channel : leadsTo more new ≡ channel
+    unfolding attachedTo
+    new-channel = at-set-same connectionPlaces (d .leads) new channel free (o .connections .leads .sized)
 
-    in-word : isConnection (connectionsOf (ended d thread)) connection ≡ cond (has gone connection) false (inUse (d .attached) connection 32)
-    unfolding ended
-    in-word = in-use-except (d .attached) gone connection 32 (omega arith)
+    new-mark : connectionAt more new .mark ≡ mark
+    unfolding attachedTo
+    new-mark = at-set-same connectionPlaces (d .marks) new mark free (o .connections .marks .sized)
 
-    its : inUse (d .attached) connection 32 ≡ true → has gone connection ≡ eqb (row .thread) thread
-    unfolding ownedBy owns
-    its e = has-wordOf-in (owns (connectionsOf d) thread) (used-inside (d .attached) e) ∙ rw e
+    -- it has no facts
+    not-input : has (d .inputs) new ≡ false
+    not-input = no-input (o .connections) new free lacks
 
-    same-row : inUse (d .attached) connection 32 ≡ true → has gone connection ≡ false
-        → connectionOf (itemsOf (ended d thread)) (connectionAt (connectionsOf (ended d thread)) connection) ≡ connectionOf (itemsOf d) row
-    unfolding ended freedConnections
-    same-row e g =
-        let inside : connection < 32 = used-inside (d .attached) e in
-        let left = except-stays (d .attached) gone connection (omega arith) (in-use-has (d .attached) connection 32 e) g in
-        ap (connectionOf (itemsOf d)) (thinned-row (o .connections) (omega arith) gone connection left)
+    new-input : isInput more new ≡ true → viewOf more .connection new ≡ input thread channel mark (firstSeen (viewOf d .item channel) mark)
+    unfolding viewOf attachedTo
+    new-input goes-in =
+        input-view more new goes-in
+        ∙ row-attached (d .timestamps) (ownerOf more new) (leadsTo more new) (connectionAt more new)
+        (o .connections .opened .free new not-input) (o .connections .consumed .free new not-input) (ticketAt d)
+        ∙ (λ i. input (new-owner i) (new-channel i) (new-mark i) (firstSeen (itemOf d (new-channel i)) (new-mark i)))
 
-    ended-connection : viewOf (ended d thread) .connection connection ≡ freedFrom thread (viewOf d .connection connection)
-    ended-connection =
-        bool-cases (inUse (d .attached) connection 32)
-        (λ e. bool-cases (has gone connection)
-        (λ g. unused-view (ended d thread) connection (in-word ∙ rw g)
-        ∙ sym (ap (freedFrom thread) (used-view d connection e) ∙ freed-from thread (itemsOf d) row ∙ rw (sym (its e) ∙ g)))
-        (λ g. used-view (ended d thread) connection (in-word ∙ rw (g, e))
-        ∙ same-row e g
-        ∙ sym (ap (freedFrom thread) (used-view d connection e) ∙ freed-from thread (itemsOf d) row ∙ rw (sym (its e) ∙ g))))
-        (λ e. unused-view (ended d thread) connection (in-word ∙ bool-cases (has gone connection) (λ g. rw g) (λ g. rw (g, e)))
-        ∙ sym (ap (freedFrom thread) (unused-view d connection e)))
+    new-output : isInput more new ≡ false → isOutput more new ≡ true → viewOf more .connection new ≡ output thread channel
+    unfolding viewOf
+    new-output goes-in goes-out = λ i. shown (goes-in i) (goes-out i) (new-owner i) (new-channel i) (more .timestamps) (connectionAt more new)
 
-  pub view-ended : (thread : ℕ) → thread < 16
-      → viewOf (ended d thread) ≡ withConnections (withThread (viewOf d) thread none) (λ connection. freedFrom thread (viewOf d .connection connection))
-  unfolding viewOf ended
-  view-ended thread inside =
-      view-ext
-      (look-set virtual none noThread 16 (omega arith) (without-elsewhere (d .living) thread) inside (d .threads) (o .threads .sized) noThread none (rw (without-same (d .living) thread)))
-      (λ c. refl) (ended-connection thread) (λ c t. refl)
+    view-attached : (connection : Connection) → viewOf more .connection new ≡ connection → viewOf more ≡ Rules.withConnection (viewOf d) new connection
+    unfolding viewOf attachedTo
+    view-attached connection here = view-ext (λ t. refl) (λ c. refl) (one-connection d more new connection beside here) (λ c t. refl)
+
+  module _ (thread channel mark : ℕ) (lives : thread < threadPlaces) (free : freeConnection d < connectionPlaces) where
+    joined : (word : ℕ) → inUse (with word (freeConnection d)) (freeConnection d) connectionPlaces ≡ true
+    joined word = in-use (with word (freeConnection d)) (freeConnection d) connectionPlaces free (with-same word (omega arith))
+
+    pub view-attached-input : viewOf (attachedTo d true thread channel mark)
+        ≡ Rules.withConnection (viewOf d) (freeConnection d) (input thread channel mark (firstSeen (viewOf d .item channel) mark))
+    unfolding attachedTo
+    view-attached-input =
+        view-attached true thread channel mark lives free _
+        (new-input true thread channel mark lives free (joined (d .inputs)))
+
+    pub view-attached-output : viewOf (attachedTo d false thread channel mark) ≡ Rules.withConnection (viewOf d) (freeConnection d) (output thread channel)
+    unfolding attachedTo
+    view-attached-output =
+        view-attached false thread channel mark lives free _
+        (new-output false thread channel mark lives free (used-below (d .inputs) free ∙ not-input false thread channel mark lives free) (joined (d .outputs)))

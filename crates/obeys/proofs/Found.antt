@@ -1,52 +1,52 @@
 -- What a get finds is what the view says that it takes: a timestamp that fits has its place, and the best place has the timestamp. Assumes nothing.
-use Rattle.obeys.proofs.Basis.{_∙_, _≡_, ap, refl, sym, true, _<_, ℕ, arith, eq-eqb, eqb-true, ltb-false, isPending, isUnseen, Unseen, Which, Earliest, Latest, Named, Row, At, Nothing, Item, isWanted, isUnseenAt, isInput}
-use Rattle.obeys.proofs.Basis.{connectionAt, itemAt, itemPlaces, soughtBy, connectionsOf, itemsOf, Desk, TakesUnseen, stateOn, DeskInOrder, viewOf, is-unseen, Sought, sought-found, sought-some, seen-at, at-seen}
+use Rattle.obeys.proofs.Basis.{_∙_, _≡_, ap, refl, sym, true, _<_, ℕ, arith, eq-eqb, eqb-true, ltb-false, isPending, isUnseen, Unseen, Which, Earliest, Latest, Named, Row, At, Nothing, isWanted, isUnseenAt, itemPlaces, soughtBy}
+use Rattle.obeys.proofs.Basis.{Desk, connectionAt, isInput, leadsTo, timestampAt, TakesUnseen, stateOn, DeskInOrder, viewOf, is-unseen, Sought, sought-found, sought-some, seen-at, at-seen}
 use Rattle.obeys.proofs.Lookup.{state-view}
 
-module _ (d : Desk) (o : DeskInOrder d) (connection : ℕ) (reads : isInput (connectionsOf d) connection ≡ true) where
+module _ (d : Desk) (o : DeskInOrder d) (connection : ℕ) (reads : isInput d connection ≡ true) where
   abbrev row : Row
-  row = connectionAt (connectionsOf d) connection
+  row = connectionAt d connection
 
   abbrev Fits : ℕ → Type 0
   Fits timestamp = stateOn (viewOf d .connection connection) timestamp ≡ Unseen
 
   -- a timestamp that fits has its place
   fits-place : (timestamp : ℕ) → Fits timestamp
-      → (place : ℕ) × (place < itemPlaces) × (isUnseenAt (itemsOf d) row place ≡ true) × (itemAt (itemsOf d) place .timestamp ≡ timestamp)
+      → (place : ℕ) × (place < itemPlaces) × (isUnseenAt (d .timestamps) row place ≡ true) × (timestampAt d place ≡ timestamp)
   unfolding isUnseenAt
   fits-place timestamp e =
       let now = sym (state-view d connection timestamp reads) ∙ e in
-      at-seen (o .items) row isUnseen timestamp (ap isPending now) (ap isUnseen now)
+      at-seen (d .timestamps) row isUnseen timestamp (ap isPending now) (ap isUnseen now)
 
-  found-fits : (which : Which) (place : ℕ) (item : Item) → Sought (itemsOf d) row which place item → Fits (item .timestamp)
+  found-fits : (which : Which) (place timestamp : ℕ) → Sought (d .timestamps) row which place timestamp → Fits timestamp
   unfolding isUnseenAt
-  found-fits which place item s =
-      state-view d connection (item .timestamp) reads
-      ∙ is-unseen _ (seen-at (o .items) row isUnseen place (item .timestamp) (s .unseen) (sym (ap (λ (i : Item). i .timestamp) (s .is))))
+  found-fits which place timestamp s =
+      state-view d connection timestamp reads
+      ∙ is-unseen _ (seen-at (d .timestamps) row isUnseen (o .items .one-item-a-pair (leadsTo d connection)) place timestamp (s .inside) (s .unseen) (sym (s .is)))
 
-  takes-found : (which : Which) (place : ℕ) (item : Item) → Sought (itemsOf d) row which place item → TakesUnseen (viewOf d) connection which (item .timestamp)
-  takes-found Earliest place item s = (
-    found-fits Earliest place item s,
+  takes-found : (which : Which) (place timestamp : ℕ) → Sought (d .timestamps) row which place timestamp → TakesUnseen (viewOf d) connection which timestamp
+  takes-found Earliest place timestamp s = (
+    found-fits Earliest place timestamp s,
     λ other fits. (let (p, inside, unseen, is) = fits-place other fits in
-        omega (arith, ltb-false (itemAt (itemsOf d) p .timestamp) (item .timestamp) (s .best p inside unseen refl))),
+        omega (arith, ltb-false (timestampAt d p) timestamp (s .best p inside unseen refl))),
   )
-  takes-found Latest place item s = (
-    found-fits Latest place item s,
+  takes-found Latest place timestamp s = (
+    found-fits Latest place timestamp s,
     λ other fits. (let (p, inside, unseen, is) = fits-place other fits in
-        omega (arith, ltb-false (item .timestamp) (itemAt (itemsOf d) p .timestamp) (s .best p inside unseen refl))),
+        omega (arith, ltb-false timestamp (timestampAt d p) (s .best p inside unseen refl))),
   )
-  takes-found (Named timestamp) place item s = (found-fits (Named timestamp) place item s, eqb-true _ timestamp (s .wanted))
+  takes-found (Named name) place timestamp s = (found-fits (Named name) place timestamp s, eqb-true timestamp name (s .wanted))
 
-  pub takes : (which : Which) (place : ℕ) (item : Item) → soughtBy d connection which ≡ At place item → TakesUnseen (viewOf d) connection which (item .timestamp)
-  takes which place item found = takes-found which place item (sought-found (itemsOf d) row which place item found)
+  pub takes : (which : Which) (place timestamp : ℕ) → soughtBy d connection which ≡ At place timestamp → TakesUnseen (viewOf d) connection which timestamp
+  takes which place timestamp found = takes-found which place timestamp (sought-found (d .timestamps) row which place timestamp found)
 
   fits-of : (which : Which) (timestamp : ℕ) → TakesUnseen (viewOf d) connection which timestamp → Fits timestamp
   fits-of Earliest timestamp t = t .0
   fits-of Latest timestamp t = t .0
   fits-of (Named name) timestamp t = t .0
 
-  wanted-of : (which : Which) (timestamp place : ℕ) → TakesUnseen (viewOf d) connection which timestamp → itemAt (itemsOf d) place .timestamp ≡ timestamp
-      → isWanted which (itemAt (itemsOf d) place) ≡ true
+  wanted-of : (which : Which) (timestamp place : ℕ) → TakesUnseen (viewOf d) connection which timestamp → timestampAt d place ≡ timestamp
+      → isWanted which (timestampAt d place) ≡ true
   wanted-of Earliest timestamp place t is = refl
   wanted-of Latest timestamp place t is = refl
   wanted-of (Named name) timestamp place t is = eq-eqb _ name (is ∙ t .1)
@@ -54,4 +54,4 @@ module _ (d : Desk) (o : DeskInOrder d) (connection : ℕ) (reads : isInput (con
   pub takes-none : (which : Which) → soughtBy d connection which ≡ Nothing → (timestamp : ℕ) → TakesUnseen (viewOf d) connection which timestamp → ⊥
   takes-none which none timestamp t =
       let (p, inside, unseen, is) = fits-place timestamp (fits-of which timestamp t) in
-      sought-some (itemsOf d) row which p inside unseen (wanted-of which timestamp p t is) none
+      sought-some (d .timestamps) row which p inside unseen (wanted-of which timestamp p t is) none

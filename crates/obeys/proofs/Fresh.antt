@@ -1,27 +1,28 @@
--- The view of a fresh desk: thread 0 at time 0, and nothing else, as the words of its tables have no other place; so a desk starts as the rules say.
+-- The view of a fresh desk: thread 0 at time 0, and nothing else, as its words have no other place; so a desk starts as the rules say.
 -- Assumes nothing.
-use Rattle.obeys.proofs.Basis.{_≡_, refl, subst, sym, and-false, false, none, ℕ, ℕ-discrete, arith, ltb, ne-eqb, has, has-from, has-none, lowest-none, isItem, placeOf, inUse, fresh, itemsOf, freshView, StartsFresh, viewOf}
-use Rattle.obeys.proofs.Basis.{none-used}
+use Rattle.obeys.proofs.Basis.{_≡_, _∙_, ap, refl, subst, sym, and-false, false, none, some, ℕ, ℕ-discrete, arith, ltb, ne-eqb, has, has-from, has-none, lowest-none, isItem, placeOf, inUse, fresh, itemsIn, freshView, StartsFresh, viewOf}
+use Rattle.obeys.proofs.Basis.{none-used, at-zeros, channelPlaces, connectionPlaces, itemPlaces, threadPlaces}
 use Rattle.rules.specs.Runs.{Start}
 use Rattle.obeys.specs.Claims.{DeskStarts}
 use Rattle.obeys.specs.Reached.{fresh-desk}
 use Rattle.obeys.proofs.Frame.{view-ext}
-use Rattle.obeys.proofs.Lookup.{dead-view, unused-view}
+use Rattle.obeys.proofs.Lookup.{dead-view, lives-view, neither-view}
 
-one-used : (n : ℕ) → (n ≡ 0 → ⊥) → inUse 1 n 16 ≡ false
+one-used : (n : ℕ) → (n ≡ 0 → ⊥) → inUse 1 n threadPlaces ≡ false
 unfolding inUse
-one-used n apart = rw (has-from 1 1 n (omega arith) (omega arith)) (and-false (ltb n 16))
+one-used n apart = rw (has-from 1 1 n (omega arith) (omega arith)) (and-false (ltb n threadPlaces))
 
 fresh-thread : (t : ℕ) → viewOf fresh .thread t ≡ freshView .thread t
-unfolding viewOf fresh inUse has
+unfolding fresh inUse has
 fresh-thread t = elim (ℕ-discrete t 0) [
-  | yes same ↦ rw (same) refl
+  | yes same ↦ rw same (lives-view fresh 0 refl ∙ ap some (at-zeros threadPlaces threadPlaces 0))
   | no apart ↦ rw (ne-eqb t 0 apart) (dead-view fresh t (one-used t apart))
 ]
 
-no-place : (c n : ℕ) → placeOf (itemsOf fresh) c n ≡ 64
+no-place : (c n : ℕ) → placeOf (fresh .timestamps) (itemsIn fresh c) n ≡ itemPlaces
 unfolding placeOf isItem fresh
-no-place c n = lowest-none (isItem (itemsOf fresh) c n) 64 (λ p inside. rw (has-none p))
+no-place c n =
+    lowest-none (isItem (fresh .timestamps) (itemsIn fresh c) n) itemPlaces (λ p inside. rw (at-zeros channelPlaces channelPlaces c, has-none p))
 
 fresh-item : (c n : ℕ) → viewOf fresh .item c n ≡ none
 unfolding viewOf
@@ -29,11 +30,11 @@ fresh-item c n = rw (no-place c n)
 
 fresh-channel : (c : ℕ) → viewOf fresh .channel c ≡ false
 unfolding viewOf fresh
-fresh-channel c = none-used c 8
+fresh-channel c = none-used c channelPlaces
 
 fresh-connection : (k : ℕ) → viewOf fresh .connection k ≡ freshView .connection k
 unfolding fresh
-fresh-connection k = unused-view fresh k (none-used k 32)
+fresh-connection k = neither-view fresh k (none-used k connectionPlaces) (none-used k connectionPlaces)
 
 pub starts-fresh : StartsFresh
 starts-fresh = view-ext fresh-thread fresh-channel fresh-connection fresh-item

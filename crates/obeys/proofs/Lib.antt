@@ -10,7 +10,10 @@ pub mod Listed
 pub mod Found
 pub mod Agreed
 pub mod Rows
+pub mod Shown
 pub mod Effects
+pub mod Freed
+pub mod Facts
 pub mod Stock
 pub mod Sweep
 pub mod Does

@@ -1,15 +1,24 @@
--- Every reached desk is in order: a start is, as its tables are all zeros but for one thread, and each effect keeps it so. Assumes nothing.
+-- Every reached desk is in order: a start is, as its columns are all zeros and its words have one thread alone, and each effect keeps it so. Assumes
+-- nothing.
+pub mod Threads
+pub mod Connections
+pub mod Items
 pub mod Desks
-use Rattle.obeys.proofs.Basis.{_≡_, ap, refl, false≢true, true, inl, inr, _+_, _<_, _≤_, ℕ, decLt, ℕ-discrete, arith, eqb-true, leb-true, ltb-true, has, has-from, has-none, without-same, Call, Passable, by, sweep}
-use Rattle.obeys.proofs.Basis.{isPending, Bound, Strong, Weak, AttachInput, AttachOutput, Channel, Consume, ConsumeUntil, Detach, End, Get, NewThread, Put, Set, Which, inward, never, noConnection, noItem, noThread, outward}
-use Rattle.obeys.proofs.Basis.{Row, Found, At, Nothing, Passed, and-left, and-right, true-not-false, isUnseenAt, lies, state, stateAt, connectionAt, connectionPlaces, isConnection, owns, threadPlaces, adopted, attachedAs}
-use Rattle.obeys.proofs.Basis.{boundOf, checks, effect, freeChannel, freeConnection, freeThread, isFound, becomesOpen, soughtBy, withConnection, connectionsOf, fresh, itemsOf, visibleTime, Desk, fewer-free, owned-below}
-use Rattle.obeys.proofs.Basis.{used-inside, ConnectionInOrder, EveryDeskInOrder, DeskInOrder, itemPlaces, connected, is-open, is-unseen, with-was, with-there, same-elsewhere, with-elsewhere, without-elsewhere, unconsumed}
-use Rattle.obeys.proofs.Basis.{open-fact, in-use-has, sought-found, all-zeros, tidy-zeros, lies-there, new-in-order, got-in-order, consumed-in-order, raised-in-order}
+pub mod Seen
+use Rattle.obeys.proofs.Basis.{false, false≢true, true, _≡_, refl, _+_, _<_, _≤_, ℕ, decLt, arith, leb-true, ltb-true, has, either, with, either-right}
+use Rattle.obeys.proofs.Basis.{has-none, has-from, fewer-free, true-not-false, and-left, and-right, Call, Passable, by, sweep, Bound, Strong, Weak}
+use Rattle.obeys.proofs.Basis.{AttachInput, AttachOutput, Channel, Consume, ConsumeUntil, Detach, End, Get, NewThread, Put, Set, Which, is-open}
+use Rattle.obeys.proofs.Basis.{is-unseen, isFound, placeFound, never, Found, At, Nothing, open-fact, unseen-facts, numberAt, connectionPlaces}
+use Rattle.obeys.proofs.Basis.{channelPlaces, itemPlaces, threadPlaces, isUnseenAt, state, leastTime, at-zeros, sought-found, shared-none, tidy-zeros}
+use Rattle.obeys.proofs.Basis.{in-use-has, used-inside, becomesOpen, checks, effect, boundOf, soughtBy, fresh, connectionAt, isInput, isOutput, leadsTo}
+use Rattle.obeys.proofs.Basis.{ownedBy, strongBound, visibleTime, weakBound, Desk, Passed, DeskInOrder, EveryDeskInOrder}
+use Rattle.words.proofs.Changes.{either-none, one-place}
+use Rattle.tables.proofs.Least.{smallest-top}
 use Rattle.obeys.specs.Reached.{DeskStart, fresh-desk}
-use Rattle.obeys.proofs.Reached.{step-keeps, reached-keeps}
-use Rattle.obeys.proofs.Bounds.{visible, weak, strong}
-use Rattle.obeys.proofs.Order.Desks.{thread-set, connection-set, stored-in-order, ended-in-order, swept-in-order}
+use Rattle.obeys.proofs.Reached.{reached-keeps, step-keeps}
+use Rattle.obeys.proofs.Order.Desks.{adopted-in-order, attached-in-order, channel-in-order, ended-in-order, freed-in-order, stored-in-order}
+use Rattle.obeys.proofs.Order.Desks.{swept-in-order, time-in-order}
+use Rattle.obeys.proofs.Order.Seen.{becomes-open-in-order, consumed-by-name-in-order, raised-mark-in-order}
 
 -- ---- the fresh desk
 
@@ -21,19 +30,41 @@ one-lives thread lives =
 nothing : (place : ℕ) → has 0 place ≡ true → ⊥
 nothing place used = true-not-false used (has-none place)
 
+nothing-held : (channel place : ℕ) → has (numberAt channelPlaces (fresh .held) channel) place ≡ true → ⊥
+unfolding fresh
+nothing-held channel place there = nothing place (shared-none channelPlaces .within channel place there)
+
 fresh-in-order : DeskInOrder fresh
 unfolding fresh
 fresh-in-order = record {
-  threads = tidy-zeros noThread threadPlaces 1 one-lives;
-  connections = tidy-zeros noConnection connectionPlaces 0 (λ connection used. absurd (nothing connection used));
-  items = record {
-    tidy = tidy-zeros noItem itemPlaces 0 (λ place used. absurd (nothing place used));
-    timestamps = λ place used. absurd (nothing place used);
-    one-item-a-pair = λ place other used. absurd (nothing place used);
+  threads = record {
+    living = one-lives;
+    times = tidy-zeros threadPlaces 1;
+    owned = tidy-zeros threadPlaces 1;
+    top = λ thread. rw (at-zeros threadPlaces threadPlaces thread) (omega arith);
   };
-  channels = λ channel used. absurd (nothing channel used);
-  times = λ thread. rw (all-zeros noThread threadPlaces thread) (omega arith);
-  attached = λ connection used. absurd (nothing connection used);
+  connections = record {
+    outputs = λ connection used. absurd (nothing connection used);
+    inputs = λ connection used. absurd (nothing connection used);
+    apart = λ connection used. absurd (nothing connection used);
+    owned = rw either-none (shared-none threadPlaces);
+    leads = tidy-zeros connectionPlaces (either 0 0);
+    led = λ connection used. absurd (nothing connection (rw either-none at used));
+    marks = tidy-zeros connectionPlaces 0;
+    opened = tidy-zeros connectionPlaces 0;
+    consumed = tidy-zeros connectionPlaces 0;
+  };
+  items = record {
+    channels = λ channel used. absurd (nothing channel used);
+    present = λ place used. absurd (nothing place used);
+    held = tidy-zeros channelPlaces 0;
+    lies = shared-none channelPlaces;
+    timestamps = tidy-zeros itemPlaces 0;
+    tickets = tidy-zeros itemPlaces 0;
+    stamped = λ place used. absurd (nothing place used);
+    one-item-a-pair = λ channel place other there. absurd (nothing-held channel place there);
+  };
+  seen = λ connection used. absurd (nothing connection used);
 }
 
 starts-in-order : (d : Desk) → DeskStart d → DeskInOrder d
@@ -42,77 +73,60 @@ starts-in-order d fresh-desk = fresh-in-order
 -- ---- the effects
 
 module _ (d : Desk) (o : DeskInOrder d) where
-  -- another row for the connection that a call names
-  owned-set : (thread connection : ℕ) → owns (connectionsOf d) thread connection ≡ true → (row : Row)
-      → (ConnectionInOrder (itemsOf d) (connectionAt (connectionsOf d) connection) → ConnectionInOrder (itemsOf d) row)
-      → DeskInOrder (withConnection d connection row)
-  unfolding owns
-  owned-set thread connection owned row kept =
-      let used = in-use-has (d .attached) connection connectionPlaces (and-left (isConnection (connectionsOf d) connection) _ owned) in
-      connection-set o connection row (same-elsewhere (d .attached) connection) (owned-below d thread connection owned)
-      (λ unused. absurd (true-not-false used unused)) (λ _. kept (o .attached connection used))
+  visible-top : (thread : ℕ) → visibleTime d thread ≤ never
+  unfolding visibleTime
+  visible-top thread = omega (arith, o .threads .top thread)
 
-  -- a get opens what it found
-  opened-in-order : (thread connection : ℕ) (which : Which) → owns (connectionsOf d) thread connection ≡ true → connectionAt (connectionsOf d) connection .direction ≡ inward
-      → (found : Found) → soughtBy d connection which ≡ found → isFound found ≡ true → DeskInOrder (becomesOpen d connection found)
-  unfolding isUnseenAt
-  opened-in-order thread connection which owned reads (At place item) search found =
-      let row = connectionAt (connectionsOf d) connection in
-      let unseen = sought-found (itemsOf d) row which place item search .unseen in
-      let (there, channel) = lies-there (itemsOf d) row place (and-left _ _ unseen) in
-      let new = is-unseen (stateAt (itemsOf d) row place) (and-right (lies (itemsOf d) row place) _ unseen) in
-      owned-set thread connection owned _
-      (λ c. got-in-order c place (there, channel, reads) (unconsumed row _ place (ap isPending new) .kept))
-  opened-in-order thread connection which owned reads Nothing search found = absurd (false≢true found)
+  least-top : leastTime (d .living) (d .times) ≤ never
+  unfolding leastTime
+  least-top = smallest-top threadPlaces (has (d .living)) (numberAt threadPlaces (d .times))
 
   bound-top : (bound : Bound) → boundOf d bound ≤ never
-  bound-top Weak = weak d o .at-most-never
-  bound-top Strong = strong d o .at-most-never
+  unfolding weakBound strongBound
+  bound-top Weak = omega (arith, least-top)
+  bound-top Strong = omega (arith, least-top)
 
-  attached-in-order : freeConnection d < connectionPlaces → (row : Row) → ConnectionInOrder (itemsOf d) row → DeskInOrder (attachedAs d row)
-  unfolding attachedAs
-  attached-in-order fits row good =
-      connection-set o (freeConnection d) row (with-elsewhere (d .attached) (freeConnection d)) fits (λ lacking. absurd (with-there (d .attached) {p = freeConnection d} (omega arith) lacking)) (λ _. good)
+  -- a get opens what it found
+  found-in-order : (connection : ℕ) → isInput d connection ≡ true → (which : Which) (found : Found)
+      → soughtBy d connection which ≡ found → isFound found ≡ true → DeskInOrder (becomesOpen d connection (placeFound found))
+  unfolding isUnseenAt
+  found-in-order connection reads which (At place timestamp) search found =
+      let row = connectionAt d connection in
+      let unseen = sought-found (d .timestamps) row which place timestamp search .unseen in
+      becomes-open-in-order o connection reads place (and-left _ _ unseen)
+      (unseen-facts row _ place (is-unseen _ (and-right (has (row .items) place) _ unseen)) .1)
+  found-in-order connection reads which Nothing search found = absurd (false≢true found)
 
-  pub in-order-effect : (call : Call) → Passable call → Passed d call → DeskInOrder (effect d call)
-  unfolding checks effect adopted state
-  in-order-effect (by thread Channel) fits p = record {
-    threads = o .threads;
-    connections = o .connections;
-    items = o .items;
-    channels = λ channel used. elim (ℕ-discrete channel (freeChannel d)) [
-      | yes same ↦ omega (arith, ltb-true (freeChannel d) 8 (p .held 9))
-      | no apart ↦ o .channels channel (with-was (d .channels) (freeChannel d) channel apart used)
-    ];
-    times = o .times;
-    attached = o .attached;
-  }
-  in-order-effect (by thread (NewThread time)) fits p =
-      let below : freeThread d < threadPlaces = ltb-true _ _ (p .held 9) in
-      thread-set o (freeThread d) time (with-elsewhere (d .living) (freeThread d)) below (λ lacking. absurd (with-there (d .living) {p = freeThread d} (omega arith) lacking)) (omega arith)
+  -- an output leads to a channel that there is
+  output-leads : (connection : ℕ) → isOutput d connection ≡ true → has (d .channels) (leadsTo d connection) ≡ true
+  output-leads connection writes =
+      let below : connection < connectionPlaces = used-inside (d .outputs) writes in
+      o .connections .led connection
+      (either-right (d .inputs) (d .outputs) connection (omega arith) (in-use-has (d .outputs) connection connectionPlaces writes))
+
+  in-order-effect : (call : Call) → Passable call → Passed d call → DeskInOrder (effect d call)
+  unfolding checks effect state
+  in-order-effect (by thread Channel) fits p = channel-in-order o (ltb-true _ _ (p .held 9))
+  in-order-effect (by thread (NewThread time)) fits p = adopted-in-order o (ltb-true _ _ (p .held 9)) time (omega arith)
   in-order-effect (by thread (AttachInput channel)) fits p =
-      attached-in-order (ltb-true _ _ (p .held 9)) _
-      (new-in-order (itemsOf d) (connected inward thread channel (visibleTime d thread)) (inl refl) (visible d o thread (p .held 1) .at-most-never) refl refl)
+      attached-in-order o thread (p .held 1) (ltb-true _ _ (p .held 9)) channel (p .held 2) true (visibleTime d thread) (visible-top thread)
+      (λ writes. absurd (true-not-false refl writes))
   in-order-effect (by thread (AttachOutput channel)) fits p =
-      attached-in-order (ltb-true _ _ (p .held 9)) _ (new-in-order (itemsOf d) (connected outward thread channel 0) (inr refl) (omega arith) refl refl)
+      attached-in-order o thread (p .held 1) (ltb-true _ _ (p .held 9)) channel (p .held 2) false 0 (omega arith) (λ writes. refl)
   in-order-effect (by thread (Detach connection)) fits p =
-      connection-set o connection noConnection (without-elsewhere (d .attached) connection) (owned-below d thread connection (p .held 3)) (λ _. refl)
-      (λ used. absurd (true-not-false used (without-same (d .attached) connection)))
-  in-order-effect (by thread End) fits p = ended-in-order o thread (used-inside (d .living) (p .held 1))
-  in-order-effect (by thread (Set time)) fits p =
-      thread-set o thread time (same-elsewhere (d .living) thread) (used-inside (d .living) (p .held 1))
-      (λ unused. absurd (true-not-false (in-use-has (d .living) thread threadPlaces (p .held 1)) unused)) (omega arith)
+      freed-in-order o thread (p .held 1) (with 0 connection)
+      (λ other there. rw (one-place connection other there) (in-use-has (ownedBy d thread) connection connectionPlaces (p .held 3)))
+  in-order-effect (by thread End) fits p = ended-in-order o thread (p .held 1)
+  in-order-effect (by thread (Set time)) fits p = time-in-order o thread (p .held 1) time (omega arith)
   in-order-effect (by thread (Put connection timestamp ticket)) fits p =
-      stored-in-order o _ (fewer-free (d .present) (ltb-true _ _ (p .held 8))) (ltb-true timestamp never (p .held 5))
-      (leb-true _ _ (p .held 7))
+      stored-in-order o (fewer-free (d .present) (ltb-true _ _ (p .held 8))) (leadsTo d connection) (output-leads connection (p .held 4)) timestamp ticket
+      (ltb-true timestamp never (p .held 5)) (leb-true _ _ (p .held 7))
   in-order-effect (by thread (Get connection which)) fits p =
-      opened-in-order thread connection which (p .held 3) (eqb-true _ inward (p .held 4)) (soughtBy d connection which) refl (p .held 10)
+      found-in-order connection (p .held 4) which (soughtBy d connection which) refl (p .held 10)
   in-order-effect (by thread (Consume connection timestamp)) fits p =
-      owned-set thread connection (p .held 3) _
-      (λ c. consumed-in-order c _ (open-fact (connectionAt (connectionsOf d) connection) timestamp _ (is-open _ (p .held 11))))
+      consumed-by-name-in-order o connection (p .held 4) _ (open-fact (connectionAt d connection) timestamp _ (is-open _ (p .held 11)))
   in-order-effect (by thread (ConsumeUntil connection timestamp)) fits p =
-      owned-set thread connection (p .held 3) _
-      (λ c. raised-in-order c (timestamp + 1) (omega (arith, ltb-true timestamp never (p .held 5))))
+      raised-mark-in-order o connection (p .held 4) (timestamp + 1) (omega (arith, ltb-true timestamp never (p .held 5)))
   in-order-effect (sweep bound slice) fits p = swept-in-order o (boundOf d bound) (bound-top bound)
 
 pub every-desk-in-order : EveryDeskInOrder

@@ -12,9 +12,8 @@ use Rattle.calls.specs.declared.Bound.the-variants.{Weak, Strong}
 use Rattle.calls.specs.Calls.{Call, sweep, put, isSweep, Passable, AllPassable, Tickets}
 use Rattle.calls.specs.Questions.{Question, items-present, Request, PassableRequests}
 use Rattle.rows.specs.Answers.{answer}
-use Rattle.tables.specs.Tables.{isLiving}
 use Rattle.desk.specs.declared.Desk.{Desk}
-use Rattle.desk.specs.Desk.{threadsOf, fresh}
+use Rattle.desk.specs.Desk.{isLiving, fresh}
 use Rattle.desk.specs.Calls.{boundOf, step, after}
 use Rattle.desk.specs.Questions.{reply}
 use Rattle.rules.specs.Rules.{never, View, freshView, outputTo, inputFrom, BoundOf, Item, IsPresent, _∈_, InLine, Does, Says}
@@ -98,7 +97,7 @@ DeskBoundsNeverFall = (d : Desk) → Reached d → (calls : List Call) → AllPa
 -- "With no living thread both bounds are never.": `desk-never-without-threads`; "every later call that names a thread is refused":
 -- `desk-refused-without-threads`
 abbrev pub NoThreads : Desk → Type 0
-NoThreads d = (thread : ℕ) → isLiving (threadsOf d) thread ≡ false
+NoThreads d = (thread : ℕ) → isLiving d thread ≡ false
 
 abbrev pub DeskNeverWithoutThreads : Type 0
 DeskNeverWithoutThreads = (d : Desk) → Reached d → NoThreads d → (bound : Bound) → boundOf d bound ≡ never

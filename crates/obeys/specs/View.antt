@@ -1,42 +1,48 @@
--- What can be observed of a desk: its tables read as the rules speak of them. Assumes nothing.
+-- What can be observed of a desk: its columns and words read as the rules speak of them. Assumes nothing.
 use mathlib.Core.Bool.{cond}
 use mathlib.Core.List.{List, [], _∷_}
 use mathlib.Core.Option.{Option, none, some}
 use Prim.Native.Nat.{ℕ}
-use lib.Dec.{eqb, ltb}
+use lib.Dec.{ltb}
+use Rattle.words.specs.Places.{lowestOf}
+use Rattle.words.specs.Words.{has}
 use Rattle.calls.specs.Calls.{Call}
 use Rattle.calls.specs.Questions.{Request, make, ask}
-use Rattle.rows.specs.declared.Connection as Rows
-use Rattle.rows.specs.declared.Item.{Item}
 use Rattle.rows.specs.declared.Answer.{Answer}
-use Rattle.rows.specs.Numbers as Numbers
-use Rattle.tables.specs.Tables.{Table, threadAt, connectionAt, itemAt, isLiving, isConnection, itemPlaces}
+use Rattle.tables.specs.Columns.{threadPlaces, itemPlaces}
 use Rattle.tables.specs.Seen.{placeOf, state}
 use Rattle.desk.specs.declared.Desk.{Desk}
-use Rattle.desk.specs.Desk.{threadsOf, connectionsOf, itemsOf, isChannel}
+use Rattle.desk.specs.Desk.{isLiving, timeOf, ownedBy, isChannel, itemsIn, isInput, isOutput, leadsTo, connectionAt, ticketAt}
 use Rattle.desk.specs.Calls.{step, sliceAfter}
 use Rattle.desk.specs.Questions.{reply}
 use Rattle.rules.specs.Rules.{Connection, unused, output, input, View, Outcome}
 use Rattle.rules.specs.Runs.{Reply}
 
--- a row as a connection of the rules: an output, or an input with its mark and the state of each timestamp
-abbrev pub connectionOf : Table Item → Rows.Connection → Connection
-connectionOf items row =
-    cond (eqb (row .direction) Numbers.input) (input (row .thread) (row .channel) (row .mark) (state items row)) (output (row .thread) (row .channel))
+-- the thread whose connection it is; the number of threads where it is nobody's
+unfoldable pub ownerOf : Desk → ℕ → ℕ
+ownerOf d connection = lowestOf (λ thread. has (ownedBy d thread) connection) threadPlaces
 
--- the ticket of the channel's item with the timestamp, wherever in the table it lies
-abbrev pub itemOf : Table Item → ℕ → ℕ → Option ℕ
-itemOf items channel timestamp =
-    cond (ltb (placeOf items channel timestamp) itemPlaces) (some (itemAt items (placeOf items channel timestamp) .ticket)) none
+-- a connection of the rules: an input with its mark and the state of each timestamp, or an output
+abbrev pub connectionOf : Desk → ℕ → Connection
+connectionOf d connection =
+    cond (isInput d connection)
+    (input (ownerOf d connection) (leadsTo d connection) (connectionAt d connection .mark) (state (d .timestamps) (connectionAt d connection)))
+    (cond (isOutput d connection) (output (ownerOf d connection) (leadsTo d connection)) unused)
+
+-- the ticket of the channel's item with the timestamp, wherever it lies
+abbrev pub itemOf : Desk → ℕ → ℕ → Option ℕ
+itemOf d channel timestamp =
+    cond (ltb (placeOf (d .timestamps) (itemsIn d channel) timestamp) itemPlaces)
+    (some (ticketAt d (placeOf (d .timestamps) (itemsIn d channel) timestamp))) none
 
 -- which threads live and at which virtual times, which channels there are, what each connection's number stands for, and which items lie where: no
--- place of an item, no word and no row of a free place can be observed
+-- place of an item, no word and nothing of a free place can be observed
 unfoldable pub viewOf : Desk → View
 viewOf d = record {
-  thread = λ thread. cond (isLiving (threadsOf d) thread) (some (threadAt (threadsOf d) thread .time)) none;
+  thread = λ thread. cond (isLiving d thread) (some (timeOf d thread)) none;
   channel = isChannel d;
-  connection = λ connection. cond (isConnection (connectionsOf d) connection) (connectionOf (itemsOf d) (connectionAt (connectionsOf d) connection)) unused;
-  item = itemOf (itemsOf d);
+  connection = connectionOf d;
+  item = itemOf d;
 }
 
 -- what the desk does at a call, by the definitions that its contracts promise

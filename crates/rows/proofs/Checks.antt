@@ -1,7 +1,7 @@
 -- A chain of checks. The code goes through them from the front and keeps the first code that is not 0; 01's answer is that of the first check that fails.
 -- Both are the same by induction over the chain, since no check refuses with 0; and the whole answer follows from its code, since a refusal tells
 -- nothing beside it, but for the one that is put in last. Assumes nothing.
-use mathlib.Core.Path.{_≡_, refl, sym, ap, ap₂}
+use mathlib.Core.Path.{_≡_, refl, sym, ap₂}
 use mathlib.Core.Bool.{Bool, true, false, not, _&&_}
 use mathlib.Core.List.{List, [], _∷_}
 use Prim.Native.Nat.{ℕ}

@@ -1,35 +1,34 @@
 -- Which of several items a search takes. Assumes nothing.
-use mathlib.Core.Bool.{Bool, false, cond}
+use mathlib.Core.Bool.{Bool, true, false, cond}
 use Prim.Native.Nat.{ℕ}
-use lib.Dec.{eqb, ltb}
-use Rattle.rows.specs.declared.Item.{Item}
+use lib.Dec.{ltb}
 use Rattle.rows.specs.declared.Found.{Found}
 use Rattle.rows.specs.declared.Found.the-variants.{At, Nothing}
+use Rattle.rows.specs.Numbers.{itemPlaces}
 use Rattle.calls.specs.declared.Which.{Which}
 use Rattle.calls.specs.declared.Which.the-variants.{Earliest, Latest, Named}
-use Rattle.words.specs.Words.{without}
 
--- "Which is earliest, latest or one named timestamp": whether a get takes the first item rather than the second
-abbrev pub takenBefore : Which → Item → Item → Bool
-takenBefore Earliest item other = ltb (item .timestamp) (other .timestamp)
-takenBefore Latest item other = ltb (other .timestamp) (item .timestamp)
-takenBefore (Named timestamp) item other = false
-
--- "by channel number, then timestamp"
-unfoldable pub before : Item → Item → Bool
-before item other =
-    cond (eqb (item .channel) (other .channel)) (ltb (item .timestamp) (other .timestamp)) (ltb (item .channel) (other .channel))
+-- "Which is earliest, latest or one named timestamp": whether a get takes the first timestamp rather than the second
+abbrev pub takenBefore : Which → ℕ → ℕ → Bool
+takenBefore Earliest timestamp other = ltb timestamp other
+takenBefore Latest timestamp other = ltb other timestamp
+takenBefore (Named named) timestamp other = false
 
 -- one more item is looked at: it is taken where nothing was found yet, or where it is better than what was found
-abbrev pub preferred : (Item → Item → Bool) → Found → ℕ → Item → Found
-preferred better (At other-place other) place item = cond (better item other) (At place item) (At other-place other)
-preferred better Nothing place item = At place item
+abbrev pub preferred : (ℕ → ℕ → Bool) → Found → ℕ → ℕ → Found
+preferred better (At other-place other) place timestamp = cond (better timestamp other) (At place timestamp) (At other-place other)
+preferred better Nothing place timestamp = At place timestamp
 
-abbrev pub ticketOf : Found → ℕ
-ticketOf (At place item) = item .ticket
-ticketOf Nothing = 0
+abbrev pub isFound : Found → Bool
+isFound (At place timestamp) = true
+isFound Nothing = false
 
--- the places without that of what was found
-abbrev pub leftOver : ℕ → Found → ℕ
-leftOver places (At place item) = without places place
-leftOver places Nothing = places
+-- the place of what was found; for nothing the number of places, which is none
+abbrev pub placeFound : Found → ℕ
+placeFound (At place timestamp) = place
+placeFound Nothing = itemPlaces
+
+-- the timestamp of what was found; 0 for nothing
+abbrev pub timestampFound : Found → ℕ
+timestampFound (At place timestamp) = timestamp
+timestampFound Nothing = 0

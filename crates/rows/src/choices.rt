@@ -1,81 +1,63 @@
 // How a search through the items chooses between two of them.
 ghost use mathlib.Core.Path.{_≡_};
-ghost use Rattle.rows.specs.Choices.{takenBefore, before, preferred, ticketOf, leftOver};
+ghost use Rattle.rows.specs.Choices.{isFound, placeFound, preferred, takenBefore, timestampFound};
 use crate::Found;
-use crate::Item;
 use calls::Which;
 
-impl Item {
-    // Whether a get that asks so takes the item rather than the other one.
-    pub fn taken_before(self, other: Item, which: Which) -> bool
-        ensures { λ r. ⌜ r ≡ takenBefore which self other ⌝ }
-    {
-        match which {
-            Which::Earliest => self.timestamp < other.timestamp,
-            Which::Latest => other.timestamp < self.timestamp,
-            Which::Named(_) => false,
-        }
-    }
-
-    // Whether the item comes before the other one: by channel number, then timestamp.
-    pub fn comes_before(self, other: Item) -> bool
-        ensures { λ r. ⌜ r ≡ before self other ⌝ }
-    {
-        if self.channel == other.channel {
-            return self.timestamp < other.timestamp;
-        }
-        self.channel < other.channel
+// Whether a get that asks so takes the timestamp rather than the other one.
+pub fn is_taken_before(which: Which, timestamp: u32, other: u32) -> bool
+    ensures { λ r. ⌜ r ≡ takenBefore which timestamp other ⌝ }
+{
+    match which {
+        Which::Earliest => timestamp < other,
+        Which::Latest => other < timestamp,
+        Which::Named(_) => false,
     }
 }
 
 impl Found {
-    // What was found, or the item in the place where a get that asks so takes that one.
-    pub fn or_taken(self, which: Which, place: u32, item: Item) -> Found
-        ensures { λ r. ⌜ r ≡ preferred (takenBefore which) self place item ⌝ }
+    // What was found, or the timestamp in the place where a get that asks so takes that one.
+    pub fn or_taken(self, which: Which, place: u32, timestamp: u32) -> Found
+        ensures { λ r. ⌜ r ≡ preferred (takenBefore which) self place timestamp ⌝ }
     {
         match self {
             Found::At(_, other) => {
-                if item.taken_before(other, which) {
-                    return Found::At(place, item);
+                if is_taken_before(which, timestamp, other) {
+                    return Found::At(place, timestamp);
                 }
                 self
             }
-            Found::Nothing => Found::At(place, item),
+            Found::Nothing => Found::At(place, timestamp),
         }
     }
 
-    // What was found, or the item in the place where that one comes before it.
-    pub fn or_before(self, place: u32, item: Item) -> Found
-        ensures { λ r. ⌜ r ≡ preferred before self place item ⌝ }
+    // Whether something was found.
+    pub fn is_found(self) -> bool
+        ensures { λ r. ⌜ r ≡ isFound self ⌝ }
     {
         match self {
-            Found::At(_, other) => {
-                if item.comes_before(other) {
-                    return Found::At(place, item);
-                }
-                self
-            }
-            Found::Nothing => Found::At(place, item),
+            Found::At(_, _) => true,
+            Found::Nothing => false,
         }
     }
 
-    // The ticket of what was found, 0 for nothing.
-    pub fn ticket(self) -> u64
-        ensures { λ r. ⌜ r ≡ ticketOf self ⌝ }
+    // The place of what was found; for nothing the number of places, which is none.
+    pub fn place(self) -> u32
+        ensures { λ r. ⌜ r ≡ placeFound self ⌝ }
     {
-        match self {
-            Found::At(_, item) => item.ticket,
-            Found::Nothing => 0,
-        }
+        let Found::At(place, _) = self else {
+            return crate::sizes::ITEMS;
+        };
+        place
     }
 
-    // The places without that of what was found.
-    pub fn taken_from(self, places: u64) -> u64
-        ensures { λ r. ⌜ r ≡ leftOver places self ⌝ }
+    // The timestamp of what was found; 0 for nothing.
+    pub fn timestamp(self) -> u32
+        ensures { λ r. ⌜ r ≡ timestampFound self ⌝ }
     {
-        match self {
-            Found::At(place, _) => words::without(places, place),
-            Found::Nothing => places,
-        }
+        let Found::At(_, timestamp) = self else {
+            return 0;
+        };
+        timestamp
     }
 }

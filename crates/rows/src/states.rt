@@ -1,8 +1,9 @@
 // The four states of a timestamp on an input connection.
 ghost use mathlib.Core.Path.{_≡_};
-ghost use Rattle.rows.specs.States.{stateOf, lookedAt};
+ghost use Rattle.words.specs.Words.{both, except};
+ghost use Rattle.rows.specs.States.{stateOf};
 use crate::Connection;
-use crate::Item;
+use crate::sizes::ITEMS;
 use calls::State;
 
 impl Connection {
@@ -13,25 +14,22 @@ impl Connection {
         if timestamp < self.mark {
             return State::Consumed;
         }
-        if place >= Item::PLACES {
+        if place >= ITEMS {
             return State::Absent;
-        }
-        if words::has(self.consumed, place) {
-            return State::Consumed;
         }
         if words::has(self.opened, place) {
             return State::Open;
         }
+        if words::has(self.consumed, place) {
+            return State::Consumed;
+        }
         State::Unseen
     }
 
-    // Whether the item lies in the connection's channel, and not below its mark.
-    pub fn looks_at(self, item: Item) -> bool
-        ensures { λ r. ⌜ r ≡ lookedAt self item ⌝ }
+    // The places whose items are UNSEEN where they are not below the mark.
+    pub fn unseen_places(self) -> u64
+        ensures { λ r. ⌜ r ≡ except (except (self .items) (self .opened)) (self .consumed) ⌝ }
     {
-        if item.channel != self.channel {
-            return false;
-        }
-        self.mark <= item.timestamp
+        words::except(words::except(self.items, self.opened), self.consumed)
     }
 }

@@ -2,14 +2,12 @@
 ghost use mathlib.Core.Path.{_≡_};
 ghost use mathlib.Core.List.{_++_};
 ghost use Prim.Native.Nat.{min};
-ghost use lib.ListN.{drop, length, replicate, take};
-ghost use Rattle.text.specs.Text.{mostTickets};
-ghost use Rattle.session.specs.Turns.{turnBy};
-ghost use Rattle.session.specs.Tickets.{sweptCount, ticketCount};
+ghost use lib.ListN.{drop, length, take};
+ghost use Rattle.session.specs.Tickets.{sweptCount};
 ghost use Rattle.session.specs.Stream.{lineKept, printedFor, readerAfter, start, usedOf, writtenAtEnd};
 use calls::Call;
+use calls::Deed;
 use desk::Desk;
-use desk::Next;
 use lines::LONGEST_LINE;
 use lines::Line;
 use rows::Answer;
@@ -36,44 +34,11 @@ pub struct Fed {
     pub written: usize,
 }
 
-// Makes the call that a line is. A sweep hands its tickets back in the slice.
-fn run(desk: Desk, line: Line, slice: &mut [u64]) -> Next
-    requires { ⌜ now slice ≡ replicate mostTickets 0 ⌝ }
-    ensures { λ r. ⌜ (
-        turnBy desk line ≡ record { answer = r .answer; tickets = take (ticketCount line (r .answer)) (now (slice .exit)); desk = r .desk }
-        ) ⌝ }
-{
-    match line {
-        Line::Makes(call) => desk.make(call, slice),
-        Line::Unreadable => {
-            let answer = Answer {
-                code: UNREADABLE,
-                value: 0,
-                time: 0,
-            };
-            Next { answer, desk }
-        }
-    }
-}
-
 // How many tickets a sweep with this answer has handed back: a refused one has handed back none, whatever its value.
 fn swept_count(answer: Answer) -> u64
     ensures { λ r. ⌜ r ≡ sweptCount answer ⌝ }
 {
     if answer.code == 0 { answer.value } else { 0 }
-}
-
-// How many tickets are printed after the answer to a line.
-fn ticket_count(line: Line, answer: Answer) -> u64
-    ensures { λ r. ⌜ r ≡ ticketCount line answer ⌝ }
-{
-    match line {
-        Line::Makes(call) => match call {
-            Call::By(_, _) => 0,
-            Call::Sweep(_) => swept_count(answer),
-        },
-        Line::Unreadable => 0,
-    }
 }
 
 // How many bytes of the line are there: a reader may say that it holds more than a line keeps.
@@ -126,10 +91,81 @@ pub fn feed(reader: Reader, part: &[u8], out: &mut [u8]) -> Fed
             i += 1;
             let mut slice = [0u64; MOST_TICKETS];
             let said = lines::read(&line[..kept(held)]);
-            let next = run(desk, said, &mut slice);
-            desk = next.desk;
-            let answer = next.answer;
-            let count = ticket_count(said, answer) as usize;
+            let mut answer = Answer {
+                code: UNREADABLE,
+                value: 0,
+                time: 0,
+            };
+            let mut count = 0;
+            // The call is made here and not by a function: the desk that a function hands back would be copied.
+            match said {
+                Line::Makes(call) => match call {
+                    Call::By(thread, deed) => match deed {
+                        Deed::Channel => {
+                            let next = desk.channel(thread);
+                            desk = next.desk;
+                            answer = next.answer;
+                        }
+                        Deed::NewThread(time) => {
+                            let next = desk.new_thread(thread, time);
+                            desk = next.desk;
+                            answer = next.answer;
+                        }
+                        Deed::AttachInput(channel) => {
+                            let next = desk.attach_input(thread, channel);
+                            desk = next.desk;
+                            answer = next.answer;
+                        }
+                        Deed::AttachOutput(channel) => {
+                            let next = desk.attach_output(thread, channel);
+                            desk = next.desk;
+                            answer = next.answer;
+                        }
+                        Deed::Detach(connection) => {
+                            let next = desk.detach(thread, connection);
+                            desk = next.desk;
+                            answer = next.answer;
+                        }
+                        Deed::End => {
+                            let next = desk.end(thread);
+                            desk = next.desk;
+                            answer = next.answer;
+                        }
+                        Deed::Set(time) => {
+                            let next = desk.set(thread, time);
+                            desk = next.desk;
+                            answer = next.answer;
+                        }
+                        Deed::Put(connection, timestamp, ticket) => {
+                            let next = desk.put(thread, connection, timestamp, ticket);
+                            desk = next.desk;
+                            answer = next.answer;
+                        }
+                        Deed::Get(connection, which) => {
+                            let next = desk.get(thread, connection, which);
+                            desk = next.desk;
+                            answer = next.answer;
+                        }
+                        Deed::Consume(connection, timestamp) => {
+                            let next = desk.consume(thread, connection, timestamp);
+                            desk = next.desk;
+                            answer = next.answer;
+                        }
+                        Deed::ConsumeUntil(connection, timestamp) => {
+                            let next = desk.consume_until(thread, connection, timestamp);
+                            desk = next.desk;
+                            answer = next.answer;
+                        }
+                    },
+                    Call::Sweep(bound) => {
+                        let next = desk.sweep(bound, &mut slice);
+                        desk = next.desk;
+                        answer = next.answer;
+                        count = swept_count(answer) as usize;
+                    }
+                },
+                Line::Unreadable => {}
+            }
             at = text::write_answer(
                 out,
                 at,

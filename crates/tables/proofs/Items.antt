@@ -1,122 +1,101 @@
--- Items in order: a pair of channel and timestamp has one place, so that the state of a timestamp is that of its item's place. Assumes nothing.
+-- Where a timestamp lies among a channel's places: where these have different timestamps it has one place, so that the state of a timestamp is that of
+-- its item's place. Assumes nothing.
 use mathlib.Core.Bool.{Bool, _&&_, true}
+use mathlib.Core.List.{List}
 use mathlib.Core.Logic.{_≢_}
-use mathlib.Core.Path.{_∙_, _≡_, ap, refl, sym}
+use mathlib.Core.Path.{_∙_, _≡_, ap, sym}
 use Prim.Native.Nat.{_<_, _≤_, ℕ}
 use native.Mathlib.Omega.{arith}
-use lib.Dec.{eqb}
 use borrow.Author.Tests.{eq-eqb, eqb-true}
+use Rattle.words.specs.Words.{has}
 use Rattle.words.proofs.Laws.{lowest-ext, lowest-holds, lowest-reach}
 use Rattle.words.proofs.YesOrNo.{and-both, and-left, and-right, bool-cases, not-then}
 use Rattle.calls.specs.States.{isPending}
 use Rattle.calls.specs.declared.State.{State}
-use Rattle.rows.specs.Numbers.{never}
 use Rattle.rows.specs.States.{stateOf}
 use Rattle.rows.specs.declared.Connection.{Connection}
-use Rattle.rows.specs.declared.Item.{Item}
 use Rattle.rows.proofs.Seen.{unconsumed}
-use Rattle.tables.specs.Order.{ItemsInOrder}
-use Rattle.tables.specs.Seen.{isItem, lies, placeOf, state, stateAt}
-use Rattle.tables.specs.Tables.{Table, isPresent, itemAt, itemPlaces}
+use Rattle.tables.specs.Columns.{at, itemPlaces}
+use Rattle.tables.specs.Seen.{isItem, placeOf, state, stateAt}
 
--- ---- the place of a pair
+-- the places have different timestamps
+abbrev pub Distinct : List ℕ → ℕ → Type 0
+Distinct timestamps places =
+    (place other : ℕ) → has places place ≡ true → has places other ≡ true → at itemPlaces timestamps place ≡ at itemPlaces timestamps other → place ≡ other
 
-module _ (items : Table Item) (channel timestamp : ℕ) where
-  pub place-reach : {place : ℕ} → place < itemPlaces → isItem items channel timestamp place ≡ true → placeOf items channel timestamp ≤ place
-  unfolding placeOf
-  place-reach = lowest-reach (isItem items channel timestamp)
+-- ---- the place of a timestamp
 
-  -- the pair lies in the place
+module _ (timestamps : List ℕ) (places timestamp : ℕ) where
+  -- the timestamp lies in the place
   pub record Holds (place : ℕ) : Type 0 where
     pub inside : place < itemPlaces
-    pub there : isPresent items place ≡ true
-    pub channel-is : itemAt items place .channel ≡ channel
-    pub timestamp-is : itemAt items place .timestamp ≡ timestamp
+    pub there : has places place ≡ true
+    pub timestamp-is : at itemPlaces timestamps place ≡ timestamp
 
-  pub holds-of : {place : ℕ} → place < itemPlaces → isItem items channel timestamp place ≡ true → Holds place
+  pub holds-of : {place : ℕ} → place < itemPlaces → isItem timestamps places timestamp place ≡ true → Holds place
   unfolding isItem
-  holds-of {place} below is =
-      let pair = and-right (isPresent items place) _ is in
-      record {
-        inside = below;
-        there = and-left _ _ is;
-        channel-is = eqb-true _ channel (and-left _ _ pair);
-        timestamp-is = eqb-true _ timestamp (and-right (eqb (itemAt items place .channel) channel) _ pair);
-      }
+  holds-of {place} below is = record { inside = below; there = and-left _ _ is; timestamp-is = eqb-true _ timestamp (and-right (has places place) _ is) }
 
-  pub holds-item : {place : ℕ} → Holds place → isItem items channel timestamp place ≡ true
+  pub holds-item : {place : ℕ} → Holds place → isItem timestamps places timestamp place ≡ true
   unfolding isItem
-  holds-item h = and-both (h .there) (and-both (eq-eqb _ _ (h .channel-is)) (eq-eqb _ _ (h .timestamp-is)))
+  holds-item h = and-both (h .there) (eq-eqb _ _ (h .timestamp-is))
 
-  -- a place that was found holds the pair
-  pub found-holds : placeOf items channel timestamp < itemPlaces → Holds (placeOf items channel timestamp)
+  -- a place that was found holds the timestamp
+  pub found-holds : placeOf timestamps places timestamp < itemPlaces → Holds (placeOf timestamps places timestamp)
   unfolding placeOf
-  found-holds below = holds-of below (lowest-holds (isItem items channel timestamp) itemPlaces below)
+  found-holds below = holds-of below (lowest-holds (isItem timestamps places timestamp) itemPlaces below)
+
+  -- and one that holds it is found, where no other does
+  pub holds-place : Distinct timestamps places → {place : ℕ} → Holds place → placeOf timestamps places timestamp ≡ place
+  unfolding placeOf
+  holds-place distinct {place} h =
+      let found : ℕ = placeOf timestamps places timestamp in
+      let low : found ≤ place = lowest-reach (isItem timestamps places timestamp) (h .inside) (holds-item h) in
+      let inside : place < itemPlaces = h .inside in
+      let g = found-holds (omega arith) in
+      distinct found place (g .there) (h .there) (g .timestamp-is ∙ sym (h .timestamp-is))
 
 -- another timestamp has another place
-pub place-apart : (items : Table Item) (channel timestamp : ℕ) {place : ℕ} → Holds items channel timestamp place
-    → (other : ℕ) → other ≢ timestamp → placeOf items channel other ≢ place
-place-apart items channel timestamp {place} h other apart same =
-    let below : placeOf items channel other < itemPlaces = omega (arith, h .inside) in
-    apart (sym (found-holds items channel other below .timestamp-is) ∙ ap (λ (p : ℕ). itemAt items p .timestamp) same ∙ h .timestamp-is)
+pub place-apart : (timestamps : List ℕ) (places timestamp : ℕ) {place : ℕ} → Holds timestamps places timestamp place
+    → (other : ℕ) → other ≢ timestamp → placeOf timestamps places other ≢ place
+place-apart timestamps places timestamp {place} h other apart same =
+    let below : placeOf timestamps places other < itemPlaces = omega (arith, h .inside) in
+    apart (sym (found-holds timestamps places other below .timestamp-is) ∙ ap (at itemPlaces timestamps) same ∙ h .timestamp-is)
 
--- a pair lies in the same place of two tables, where each holds it wherever the other does
-pub same-place : (items others : Table Item) (channel timestamp : ℕ)
-    → ((place : ℕ) → Holds items channel timestamp place → Holds others channel timestamp place)
-    → ((place : ℕ) → Holds others channel timestamp place → Holds items channel timestamp place)
-    → placeOf others channel timestamp ≡ placeOf items channel timestamp
+-- a timestamp lies in the same place of two channels, where each holds it wherever the other does
+pub same-place : (timestamps stamps : List ℕ) (places others timestamp : ℕ)
+    → ((place : ℕ) → Holds timestamps places timestamp place → Holds stamps others timestamp place)
+    → ((place : ℕ) → Holds stamps others timestamp place → Holds timestamps places timestamp place)
+    → placeOf stamps others timestamp ≡ placeOf timestamps places timestamp
 unfolding placeOf
-same-place items others channel timestamp still before =
-    lowest-ext _ _ itemPlaces (λ p inside. bool-cases (isItem items channel timestamp p)
-    (λ is. holds-item others channel timestamp (still p (holds-of items channel timestamp inside is)) ∙ sym is)
-    (λ is. not-then (λ now. holds-item items channel timestamp (before p (holds-of others channel timestamp inside now))) is ∙ sym is))
+same-place timestamps stamps places others timestamp still before =
+    lowest-ext _ _ itemPlaces (λ p inside. bool-cases (isItem timestamps places timestamp p)
+    (λ is. holds-item stamps others timestamp (still p (holds-of timestamps places timestamp inside is)) ∙ sym is)
+    (λ is. not-then (λ now. holds-item timestamps places timestamp (before p (holds-of stamps others timestamp inside now))) is ∙ sym is))
 
--- the item in the place lies in the connection's channel
-pub lies-there : (items : Table Item) (row : Connection) (place : ℕ) → lies items row place ≡ true
-    → (isPresent items place ≡ true) × (itemAt items place .channel ≡ row .channel)
-unfolding lies
-lies-there items row place e = (and-left _ _ e, eqb-true _ _ (and-right (isPresent items place) _ e))
+-- ---- the state of a timestamp
 
-module _ {items : Table Item} (o : ItemsInOrder items) where
-  -- the place of a pair is the one that holds it
-  pub holds-place : {channel timestamp place : ℕ} → Holds items channel timestamp place → placeOf items channel timestamp ≡ place
-  holds-place {channel} {timestamp} {place} h =
-      let found : ℕ = placeOf items channel timestamp in
-      let low : found ≤ place = place-reach items channel timestamp (h .inside) (holds-item items channel timestamp h) in
-      let inside : place < itemPlaces = h .inside in
-      let g = found-holds items channel timestamp (omega arith) in
-      o .one-item-a-pair found place (g .there) (h .there) (g .channel-is ∙ sym (h .channel-is)) (g .timestamp-is ∙ sym (h .timestamp-is))
+module _ (timestamps : List ℕ) (row : Connection) where
+  pub holds-state : Distinct timestamps (row .items) → (timestamp : ℕ) {place : ℕ} → Holds timestamps (row .items) timestamp place
+      → state timestamps row timestamp ≡ stateOf row timestamp place
+  unfolding state
+  holds-state distinct timestamp h = ap (stateOf row timestamp) (holds-place timestamps (row .items) timestamp distinct h)
 
-  pub timestamp-top : (place : ℕ) → itemAt items place .timestamp ≤ never
-  timestamp-top place =
-      bool-cases (isPresent items place) (λ there. omega (arith, o .timestamps place there)) (λ free. rw (o .tidy .free place free) (omega arith))
+  module _ (test : State → Bool) where
+    -- a test of the state in an item's place is one of the state of its timestamp
+    pub seen-at : Distinct timestamps (row .items) → (place timestamp : ℕ) → place < itemPlaces
+        → (has (row .items) place && test (stateAt timestamps row place)) ≡ true
+        → at itemPlaces timestamps place ≡ timestamp → test (state timestamps row timestamp) ≡ true
+    seen-at distinct place timestamp inside e is =
+        let h : Holds timestamps (row .items) timestamp place = record { inside = inside; there = and-left _ _ e; timestamp-is = is } in
+        ap test (holds-state distinct timestamp h ∙ ap (λ (t : ℕ). stateOf row t place) (sym is)) ∙ and-right (has (row .items) place) _ e
 
-  -- ---- the state of a timestamp
-
-  module _ (row : Connection) where
-    pub lies-holds : (place : ℕ) → lies items row place ≡ true → Holds items (row .channel) (itemAt items place .timestamp) place
-    lies-holds place e =
-        let (there, beside) = lies-there items row place e in
-        record { inside = o .tidy .inside place there; there = there; channel-is = beside; timestamp-is = refl }
-
-    pub holds-state : {timestamp place : ℕ} → Holds items (row .channel) timestamp place → state items row timestamp ≡ stateOf row timestamp place
+    -- and a pending timestamp has such a place
+    pub at-seen : (timestamp : ℕ) → isPending (state timestamps row timestamp) ≡ true → test (state timestamps row timestamp) ≡ true
+        → (place : ℕ) × (place < itemPlaces) × ((has (row .items) place && test (stateAt timestamps row place)) ≡ true) × (at itemPlaces timestamps place ≡ timestamp)
     unfolding state
-    holds-state {timestamp} h = ap (stateOf row timestamp) (holds-place h)
-
-    module _ (test : State → Bool) where
-      -- a test of the state in an item's place is one of the state of its timestamp
-      pub seen-at : (place timestamp : ℕ) → (lies items row place && test (stateAt items row place)) ≡ true
-          → itemAt items place .timestamp ≡ timestamp → test (state items row timestamp) ≡ true
-      unfolding state
-      seen-at place timestamp e is =
-          rw (sym is, holds-place (lies-holds place (and-left _ _ e))) (and-right (lies items row place) _ e)
-
-      -- and a pending timestamp has such a place
-      pub at-seen : (timestamp : ℕ) → isPending (state items row timestamp) ≡ true → test (state items row timestamp) ≡ true
-          → (place : ℕ) × (place < itemPlaces) × ((lies items row place && test (stateAt items row place)) ≡ true) × (itemAt items place .timestamp ≡ timestamp)
-      unfolding state lies
-      at-seen timestamp pending passes =
-          let place : ℕ = placeOf items (row .channel) timestamp in
-          let inside = unconsumed row timestamp place pending .inside in
-          let h = found-holds items (row .channel) timestamp inside in
-          (place, inside, and-both (and-both (h .there) (eq-eqb _ _ (h .channel-is))) (rw (h .timestamp-is) passes), h .timestamp-is)
+    at-seen timestamp pending passes =
+        let place : ℕ = placeOf timestamps (row .items) timestamp in
+        let inside = unconsumed row timestamp place pending .inside in
+        let h = found-holds timestamps (row .items) timestamp inside in
+        (place, inside, and-both (h .there) (rw (h .timestamp-is) passes), h .timestamp-is)

@@ -1,10 +1,11 @@
--- The laws of the tables.
+-- The laws of the columns.
+pub mod At
 pub mod Used
-pub mod Some
-pub mod Least
-pub mod Chosen
 pub mod Tidy
+pub mod Connections
+pub mod Shared
 pub mod Items
 pub mod Stored
-pub mod Connections
+pub mod Least
+pub mod Chosen
 pub mod Examples

@@ -1,129 +1,104 @@
--- One item more: it lies in the free place that the word names lowest, every other pair where it lay, and the items stay in order. Assumes nothing.
+-- One item more: it lies in the free place, every other timestamp of its channel where it lay, and so do those of the other channels, which do not have
+-- that place. Assumes nothing.
 use mathlib.Core.Bool.{false, true}
+use mathlib.Core.List.{List}
 use mathlib.Core.Logic.{_≢_}
 use mathlib.Core.Path.{_∙_, _≡_, ap, sym}
 use Prim.Native.Nat.{_<_, _≤_, ℕ}
 use native.Mathlib.Decide.{ℕ-discrete}
 use native.Mathlib.Omega.{arith}
-use lib.ListN.{set}
-use lib.Seq.{getD-set-other, getD-set-same}
-use Rattle.words.specs.Words.{lowestFree, with}
-use Rattle.words.proofs.Changes.{with-elsewhere, with-there, with-was}
-use Rattle.words.proofs.Laws.{free-lacks, with-other, with-same}
+use lib.ListN.{length, set}
+use Rattle.words.specs.Words.{has, with}
+use Rattle.words.proofs.Changes.{Elsewhere, same-elsewhere, with-elsewhere, with-stays}
+use Rattle.words.proofs.Laws.{with-same}
 use Rattle.words.proofs.YesOrNo.{true-not-false}
-use Rattle.rows.specs.Numbers.{never, noItem}
-use Rattle.rows.specs.declared.Connection.{Connection}
-use Rattle.rows.specs.declared.Item.{Item}
-use Rattle.tables.specs.Order.{ItemsInOrder, Stands}
+use Rattle.tables.specs.Columns.{at, channelPlaces, itemPlaces, setAt}
+use Rattle.tables.specs.Order.{Inside}
 use Rattle.tables.specs.Seen.{placeOf}
-use Rattle.tables.specs.Tables.{Table, isPresent, itemAt, itemPlaces, table}
-use Rattle.tables.proofs.Items.{Holds, holds-place, same-place}
-use Rattle.tables.proofs.Tidy.{all-set, tidy-set}
+use Rattle.tables.proofs.At.{at-set-other, at-set-same, at-setAt-other, at-setAt-same}
+use Rattle.tables.proofs.Items.{Distinct, Holds, holds-place, same-place}
 
-module _ {items : Table Item} (o : ItemsInOrder items) (item : Item) (fits : lowestFree (items .used) < itemPlaces) where
-  abbrev free : ℕ
-  free = lowestFree (items .used)
+-- what lay in a channel lies there still, where one of them has another place
+pub still-held : (held : List ℕ) → length held ≡ channelPlaces → (channel : ℕ) → channel < channelPlaces → (free other : ℕ)
+    → Inside itemPlaces (at channelPlaces held other)
+    → (place : ℕ) → has (at channelPlaces held other) place ≡ true
+    → has (at channelPlaces (setAt channelPlaces held channel (with (at channelPlaces held channel) free)) other) place ≡ true
+still-held held sized channel below free other inside place there = elim (ℕ-discrete other channel) [
+  | yes same ↦ rw (same, at-setAt-same channelPlaces held channel (with (at channelPlaces held channel) free) below sized)
+      (with-stays (at channelPlaces held channel) free place (inside place there) (rw same at there))
+  | no apart ↦ rw (at-setAt-other channelPlaces held channel (with (at channelPlaces held channel) free) other apart) there
+]
 
-  abbrev more : Table Item
-  more = table (with (items .used) free) (set (items .rows) free item)
+module _ (timestamps : List ℕ) (sized : length timestamps ≡ itemPlaces) (free : ℕ) (fits : free < itemPlaces) (timestamp : ℕ) where
+  abbrev more : List ℕ
+  more = set timestamps free timestamp
 
-  pub new-lacks : isPresent items free ≡ false
-  new-lacks = free-lacks (items .used) fits
+  new-timestamp : at itemPlaces more free ≡ timestamp
+  new-timestamp = at-set-same itemPlaces timestamps free timestamp fits sized
 
-  -- the new item, and the others as they were
-  pub new-item : itemAt more free ≡ item
-  new-item = getD-set-same (items .rows) free item noItem (omega (arith, o .tidy .sized))
+  old-timestamp : (place : ℕ) → place ≢ free → at itemPlaces more place ≡ at itemPlaces timestamps place
+  old-timestamp = at-set-other itemPlaces timestamps free timestamp
 
-  pub old-item : (place : ℕ) → place ≢ free → itemAt more place ≡ itemAt items place
-  old-item place apart = getD-set-other (items .rows) free place item noItem apart
-
-  was : (place : ℕ) → place ≢ free → isPresent more place ≡ true → isPresent items place ≡ true
-  was place apart there = with-was (items .used) free place apart there
-
-  -- another pair keeps its place
-  module _ (channel timestamp : ℕ) (differ : channel ≡ item .channel → timestamp ≡ item .timestamp → ⊥) where
-    still : (place : ℕ) → Holds items channel timestamp place → Holds more channel timestamp place
-    still place h =
-        let apart : place ≢ free = λ same. true-not-false (h .there) (rw same new-lacks) in
-        record {
-          inside = h .inside;
-          there = with-other (items .used) (h .inside) apart ∙ h .there;
-          channel-is = ap (λ (row : Item). row .channel) (old-item place apart) ∙ h .channel-is;
-          timestamp-is = ap (λ (row : Item). row .timestamp) (old-item place apart) ∙ h .timestamp-is;
-        }
-
-    before : (place : ℕ) → Holds more channel timestamp place → Holds items channel timestamp place
-    before place h =
-        elim (ℕ-discrete place free) [
-          | yes same ↦ absurd (differ (sym (h .channel-is) ∙ ap (λ (row : Item). row .channel) (is same)) (sym (h .timestamp-is) ∙ ap (λ (row : Item). row .timestamp) (is same)))
-          | no apart ↦ record {
-            inside = h .inside;
-            there = was place apart (h .there);
-            channel-is = sym (ap (λ (row : Item). row .channel) (old-item place apart)) ∙ h .channel-is;
-            timestamp-is = sym (ap (λ (row : Item). row .timestamp) (old-item place apart)) ∙ h .timestamp-is;
-          }
-        ]
+  -- a channel whose places are the same but perhaps for the free one, which it did not have
+  module _ (places : ℕ) (lacks : has places free ≡ false) {word : ℕ} (else : Elsewhere word places free) where
+    place-stays : (other : ℕ) → (has word free ≡ true → other ≢ timestamp) → placeOf more word other ≡ placeOf timestamps places other
+    place-stays other differ = same-place timestamps more places word other still before
       where
-        is : place ≡ free → itemAt more place ≡ item
-        is same = rw same new-item
+        still : (place : ℕ) → Holds timestamps places other place → Holds more word other place
+        still place h =
+            let apart : place ≢ free = λ same. true-not-false (h .there) (rw same lacks) in
+            record { inside = h .inside; there = else .stays place (h .inside) apart (h .there); timestamp-is = old-timestamp place apart ∙ h .timestamp-is }
 
-    pub old-place : placeOf more channel timestamp ≡ placeOf items channel timestamp
-    old-place = same-place items more channel timestamp still before
+        before : (place : ℕ) → Holds more word other place → Holds timestamps places other place
+        before place h =
+            elim (ℕ-discrete place free) [
+              | yes same ↦ absurd (differ (rw same at (h .there)) (sym (h .timestamp-is) ∙ ap (at itemPlaces more) same ∙ new-timestamp))
+              | no apart ↦ record { inside = h .inside; there = else .was place apart (h .there); timestamp-is = sym (old-timestamp place apart) ∙ h .timestamp-is }
+            ]
 
-  -- no fact stood in the free place
-  pub still-stands : (row : Connection) (place : ℕ) → Stands items row place → Stands more row place
-  still-stands row place (there, beside, reads) =
-      let apart : place ≢ free = λ same. true-not-false there (rw same new-lacks) in
-      (with-other (items .used) (o .tidy .inside place there) apart ∙ there, ap (λ (row : Item). row .channel) (old-item place apart) ∙ beside, reads)
+    module _ (inside : Inside itemPlaces places) (new : has word free ≡ true → itemPlaces ≤ placeOf timestamps places timestamp)
+        (distinct : Distinct timestamps places) where
+      -- no other place has the new timestamp
+      not-twice : (place : ℕ) → place ≢ free → has word place ≡ true → has word free ≡ true → at itemPlaces more place ≡ at itemPlaces more free → ⊥
+      not-twice place apart there joined same =
+          let h : Holds timestamps places timestamp place = record {
+            inside = inside place (else .was place apart there);
+            there = else .was place apart there;
+            timestamp-is = sym (old-timestamp place apart) ∙ same ∙ new-timestamp;
+          } in
+          omega (arith, h .inside, new joined, holds-place timestamps places timestamp distinct h)
 
-  module _ (stamped : item .timestamp < never) (new : itemPlaces ≤ placeOf items (item .channel) (item .timestamp)) where
-    -- no present item has the new one's pair
-    not-twice : (place : ℕ) → place ≢ free → isPresent more place ≡ true
-        → itemAt more place .channel ≡ itemAt more free .channel
-        → itemAt more place .timestamp ≡ itemAt more free .timestamp → ⊥
-    not-twice place apart there channel timestamp =
-        let present = was place apart there in
-        let h : Holds items (item .channel) (item .timestamp) place = record {
-          inside = o .tidy .inside place present;
-          there = present;
-          channel-is = rw (old-item place apart, new-item) at channel;
-          timestamp-is = rw (old-item place apart, new-item) at timestamp;
-        } in
-        omega (arith, h .inside, holds-place o h)
-
-    pairs : (place other : ℕ) → isPresent more place ≡ true → isPresent more other ≡ true
-        → itemAt more place .channel ≡ itemAt more other .channel
-        → itemAt more place .timestamp ≡ itemAt more other .timestamp
-        → place ≡ other
-    pairs place other there other-there channel timestamp =
-        elim (ℕ-discrete place free) [
-          | yes same ↦ elim (ℕ-discrete other free) [
-            | yes other-same ↦ same ∙ sym other-same
-            | no other-apart ↦ absurd (not-twice other other-apart other-there (rw same at (sym channel)) (rw same at (sym timestamp)))
+      distinct-stays : Distinct more word
+      distinct-stays place other there too same =
+          elim (ℕ-discrete place free) [
+            | yes here ↦ elim (ℕ-discrete other free) [
+              | yes also ↦ here ∙ sym also
+              | no apart ↦ absurd (not-twice other apart too (rw here at there) (sym same ∙ ap (at itemPlaces more) here))
+            ]
+            | no apart ↦ elim (ℕ-discrete other free) [
+              | yes also ↦ absurd (not-twice place apart there (rw also at too) (same ∙ ap (at itemPlaces more) also))
+              | no too-apart ↦ distinct place other (else .was place apart there) (else .was other too-apart too)
+                  (sym (old-timestamp place apart) ∙ same ∙ old-timestamp other too-apart)
+            ]
           ]
-          | no apart ↦ elim (ℕ-discrete other free) [
-            | yes other-same ↦ absurd (not-twice place apart there (rw other-same at channel) (rw other-same at timestamp))
-            | no other-apart ↦ o .one-item-a-pair place other (was place apart there) (was other other-apart other-there)
-                (rw (old-item place apart, old-item other other-apart) at channel)
-                (rw (old-item place apart, old-item other other-apart) at timestamp)
-          ]
-        ]
 
-    pub items-stored : ItemsInOrder more
-    items-stored =
-        let else = with-elsewhere (items .used) free in
-        record {
-          tidy = tidy-set (o .tidy) (omega arith) else fits item (λ lacking. absurd (with-there (items .used) fits lacking));
-          timestamps = all-set (o .tidy) (omega arith) else fits item (λ (row : Item). row .timestamp < never) (λ _. stamped) (o .timestamps);
-          one-item-a-pair = pairs;
-        }
+  module _ (places : ℕ) (lacks : has places free ≡ false) where
+    -- another channel
+    pub beside-place : (other : ℕ) → placeOf more places other ≡ placeOf timestamps places other
+    beside-place other = place-stays places lacks (same-elsewhere places free) other (λ there. absurd (true-not-false there lacks))
 
-    -- the new pair lies in the free place
-    pub new-place : placeOf more (item .channel) (item .timestamp) ≡ free
-    new-place =
-        holds-place items-stored (record {
-          inside = fits;
-          there = with-same (items .used) fits;
-          channel-is = ap (λ (row : Item). row .channel) new-item;
-          timestamp-is = ap (λ (row : Item). row .timestamp) new-item;
-        })
+    pub beside-distinct : Inside itemPlaces places → Distinct timestamps places → Distinct more places
+    beside-distinct inside = distinct-stays places lacks (same-elsewhere places free) inside (λ there. absurd (true-not-false there lacks))
+
+    -- the item's own
+    pub old-place : (other : ℕ) → other ≢ timestamp → placeOf more (with places free) other ≡ placeOf timestamps places other
+    old-place other differ = place-stays places lacks (with-elsewhere places free) other (λ _. differ)
+
+    module _ (inside : Inside itemPlaces places) (new : itemPlaces ≤ placeOf timestamps places timestamp) (distinct : Distinct timestamps places) where
+      pub stored-distinct : Distinct more (with places free)
+      stored-distinct = distinct-stays places lacks (with-elsewhere places free) inside (λ _. new) distinct
+
+      pub new-place : placeOf more (with places free) timestamp ≡ free
+      new-place =
+          holds-place more (with places free) timestamp stored-distinct
+          (record { inside = fits; there = with-same places fits; timestamp-is = new-timestamp })

@@ -1,19 +1,17 @@
 -- Which places of a table are used, by its word: a used place is one of the table's, and in the word. Assumes nothing.
 use mathlib.Core.Bool.{Bool, _&&_, and-false, and-true, cond, false, true}
-use mathlib.Core.Logic.{_≢_}
+use mathlib.Core.Logic.{_≢_, _⊎_, inl, inr, ⊎-elim}
 use mathlib.Core.Path.{_∙_, _≡_, ap, sym}
 use Prim.Native.Nat.{_<_, _≤_, ℕ}
 use native.Mathlib.Omega.{arith}
-use lib.Dec.{eqb, ltb}
+use lib.Dec.{ltb}
 use borrow.Author.Tests.{lt-ltb, ltb-true}
-use Rattle.words.specs.Words.{except, has, wordPlaces}
-use Rattle.words.proofs.Changes.{Elsewhere}
+use Rattle.words.specs.Words.{either, except, has, wordPlaces}
+use Rattle.words.proofs.Changes.{Elsewhere, either-left, either-one, either-right}
 use Rattle.words.proofs.Digits.{has-none}
 use Rattle.words.proofs.Laws.{except-at}
 use Rattle.words.proofs.YesOrNo.{and-left, and-right, bool-cases, not-then}
-use Rattle.rows.specs.Numbers.{connectionPlaces, input}
-use Rattle.rows.specs.declared.Connection.{Connection}
-use Rattle.tables.specs.Tables.{Table, connectionAt, inUse, isConnection, isInput, owns}
+use Rattle.tables.specs.Columns.{inUse}
 
 -- below the number of places, a place is used where it is in the word
 pub used-below : (used : ℕ) {place places : ℕ} → place < places → inUse used place places ≡ has used place
@@ -51,25 +49,24 @@ unfolding inUse
 in-use-except used gone n places fits =
     bool-cases (ltb n places)
     (λ e. let below : n < places = ltb-true n places e in
-    rw (except-at used gone {i = n} (omega arith)) (bool-cases (has gone n) (λ g. rw (g, e) (bool-cases (has used n) (λ q. rw q) (λ q. rw q))) (λ g. rw (g, e) (and-true (has used n)))))
+    rw (except-at used gone {i = n} (omega arith))
+    (bool-cases (has gone n) (λ g. rw (g, e) (and-false (has used n))) (λ g. rw (g, e) (and-true (has used n)))))
     (λ e. rw e (bool-cases (has gone n) (λ g. rw g) (λ g. rw g)))
 
--- ---- a connection
+-- one of two words
+module _ (a b place places : ℕ) where
+  pub in-use-left : places ≤ wordPlaces → inUse a place places ≡ true → inUse (either a b) place places ≡ true
+  in-use-left fits used =
+      let below : place < places = used-inside a used in
+      in-use (either a b) place places below (either-left a b place (omega arith) (in-use-has a place places used))
 
-module _ (connections : Table Connection) (connection : ℕ) where
-  pub owned-used : (thread : ℕ) → owns connections thread connection ≡ true → isConnection connections connection ≡ true
-  unfolding owns
-  owned-used thread owned = and-left _ _ owned
+  pub in-use-right : places ≤ wordPlaces → inUse b place places ≡ true → inUse (either a b) place places ≡ true
+  in-use-right fits used =
+      let below : place < places = used-inside b used in
+      in-use (either a b) place places below (either-right a b place (omega arith) (in-use-has b place places used))
 
-  -- an input, by its direction
-  pub reads-as : isConnection connections connection ≡ true → isInput connections connection ≡ eqb (connectionAt connections connection .direction) input
-  unfolding isInput
-  reads-as used = ap (λ (b : Bool). b && eqb (connectionAt connections connection .direction) input) used
-
-  pub used-reads : isConnection connections connection ≡ true → eqb (connectionAt connections connection .direction) input ≡ true
-      → isInput connections connection ≡ true
-  used-reads used goes = reads-as used ∙ goes
-
-  pub input-used : isInput connections connection ≡ true → isConnection connections connection ≡ true
-  unfolding isInput
-  input-used reads = and-left _ _ reads
+  pub in-use-one : inUse (either a b) place places ≡ true → (inUse a place places ≡ true) ⊎ (inUse b place places ≡ true)
+  in-use-one used =
+      let below : place < places = used-inside (either a b) used in
+      ⊎-elim (λ there. inl (in-use a place places below there)) (λ there. inr (in-use b place places below there))
+      (either-one a b place (in-use-has (either a b) place places used))

@@ -1,5 +1,5 @@
--- Document 01 of the desk's tables.
-pub mod Tables
+-- Document 01 of the desk's columns.
+pub mod Columns
 pub mod Seen
 pub mod Times
 pub mod Search

@@ -1,42 +1,39 @@
 -- Document 01, "What a connection has seen". Assumes nothing.
 use mathlib.Core.Bool.{Bool, _&&_}
+use mathlib.Core.List.{List}
 use Prim.Native.Nat.{ℕ}
 use lib.Dec.{eqb}
 use Rattle.words.specs.Places.{lowestOf}
+use Rattle.words.specs.Words.{has}
 use Rattle.rows.specs.declared.Connection.{Connection}
-use Rattle.rows.specs.declared.Item.{Item}
 use Rattle.calls.specs.declared.State.{State}
 use Rattle.calls.specs.States.{isUnseen, isOpen, isPending}
 use Rattle.rows.specs.States.{stateOf}
-use Rattle.tables.specs.Tables.{Table, itemAt, isPresent, itemPlaces}
+use Rattle.tables.specs.Columns.{at, itemPlaces}
 
--- the channel has an item with the timestamp, and it lies in the place
-unfoldable pub isItem : Table Item → ℕ → ℕ → ℕ → Bool
-isItem items channel timestamp p =
-    isPresent items p && (eqb (itemAt items p .channel) channel && eqb (itemAt items p .timestamp) timestamp)
+-- an item with the timestamp lies in the place, which is one of these
+unfoldable pub isItem : List ℕ → ℕ → ℕ → ℕ → Bool
+isItem timestamps places timestamp place = has places place && eqb (at itemPlaces timestamps place) timestamp
 
--- where the channel's item with the timestamp lies; the number of places where "the channel has no such item"
-unfoldable pub placeOf : Table Item → ℕ → ℕ → ℕ
-placeOf items channel timestamp = lowestOf (isItem items channel timestamp) itemPlaces
+-- where among a channel's places the item with the timestamp lies; the number of places where "the channel has no such item"
+unfoldable pub placeOf : List ℕ → ℕ → ℕ → ℕ
+placeOf timestamps places timestamp = lowestOf (isItem timestamps places timestamp) itemPlaces
 
 -- "For a timestamp on it": the state of a timestamp on a connection
-unfoldable pub state : Table Item → Connection → ℕ → State
-state items connection timestamp = stateOf connection timestamp (placeOf items (connection .channel) timestamp)
-
--- the present item in the place lies in the connection's channel
-unfoldable pub lies : Table Item → Connection → ℕ → Bool
-lies items connection p = isPresent items p && eqb (itemAt items p .channel) (connection .channel)
+unfoldable pub state : List ℕ → Connection → ℕ → State
+state timestamps connection timestamp = stateOf connection timestamp (placeOf timestamps (connection .items) timestamp)
 
 -- the state of the timestamp of the item in the place
-abbrev pub stateAt : Table Item → Connection → ℕ → State
-stateAt items connection p = stateOf connection (itemAt items p .timestamp) p
+abbrev pub stateAt : List ℕ → Connection → ℕ → State
+stateAt timestamps connection place = stateOf connection (at itemPlaces timestamps place) place
 
-unfoldable pub isUnseenAt : Table Item → Connection → ℕ → Bool
-isUnseenAt items connection p = lies items connection p && isUnseen (stateAt items connection p)
+-- an item of the channel lies in the place, and is so
+unfoldable pub isUnseenAt : List ℕ → Connection → ℕ → Bool
+isUnseenAt timestamps connection place = has (connection .items) place && isUnseen (stateAt timestamps connection place)
 
-unfoldable pub isOpenAt : Table Item → Connection → ℕ → Bool
-isOpenAt items connection p = lies items connection p && isOpen (stateAt items connection p)
+unfoldable pub isOpenAt : List ℕ → Connection → ℕ → Bool
+isOpenAt timestamps connection place = has (connection .items) place && isOpen (stateAt timestamps connection place)
 
 -- "UNSEEN or OPEN"
-unfoldable pub isPendingAt : Table Item → Connection → ℕ → Bool
-isPendingAt items connection p = lies items connection p && isPending (stateAt items connection p)
+unfoldable pub isPendingAt : List ℕ → Connection → ℕ → Bool
+isPendingAt timestamps connection place = has (connection .items) place && isPending (stateAt timestamps connection place)

@@ -1,83 +1,80 @@
-// Searches through the items.
+// Searches through the items in the places of a word.
 ghost use mathlib.Core.Path.{_≡_};
 ghost use mathlib.Core.Bool.{_&&_};
-ghost use Rattle.words.specs.Words.{except};
-ghost use Rattle.rows.specs.States.{lookedAt};
-ghost use Rattle.tables.specs.Tables.{table};
+ghost use lib.Dec.{leb};
 ghost use Rattle.tables.specs.Seen.{placeOf};
-ghost use Rattle.tables.specs.Search.{isWanted, sought};
+ghost use Rattle.tables.specs.Search.{chosenFrom, isWanted, sought};
+use crate::columns::Timestamps;
+use crate::columns::timestamp_at;
 use calls::Which;
 use rows::Connection;
 use rows::Found;
-use rows::Item;
-use rows::Items;
+use rows::sizes::ITEMS;
 
-// The place of the channel's item with the timestamp; the number of places where the channel has none.
-pub fn place_of(items: Items, present: u64, channel: u32, timestamp: u32) -> u32
-    ensures { λ r. ⌜ r ≡ placeOf (table present items) channel timestamp ⌝ }
+// Where among the places the item with the timestamp lies; the number of places where there is none.
+pub fn place_of(timestamps: &Timestamps, places: u64, timestamp: u32) -> u32
+    ensures { λ r. ⌜ r ≡ placeOf (now (timestamps .entry)) places timestamp ⌝ }
 {
-    let mut rest = present;
+    let mut rest = places;
     let mut p = words::lowest(rest);
-    while p < Item::PLACES {
-        let item = items[p as usize];
-        // The timestamp first: few items share it, so that the machine foresees the way.
-        if item.timestamp == timestamp {
-            if item.channel == channel {
-                return p;
-            }
+    while p < ITEMS {
+        if timestamp_at(timestamps, p) == timestamp {
+            return p;
         }
         rest = words::without(rest, p);
         p = words::lowest(rest);
     }
-    Item::PLACES
+    ITEMS
 }
 
-// The places that can be UNSEEN on the connection.
-fn unseen_places(connection: Connection, present: u64) -> u64
-    ensures { λ r. ⌜ r ≡ except (except present (connection .opened)) (connection .consumed) ⌝ }
-{
-    words::except(
-        words::except(present, connection.opened),
-        connection.consumed,
-    )
-}
-
-// Whether the item has the named timestamp, where one is named.
-fn is_wanted(which: Which, item: Item) -> bool
-    ensures { λ r. ⌜ r ≡ isWanted which item ⌝ }
+// Whether the timestamp is the named one, where one is named.
+fn is_wanted(which: Which, timestamp: u32) -> bool
+    ensures { λ r. ⌜ r ≡ isWanted which timestamp ⌝ }
 {
     match which {
         Which::Earliest => true,
         Which::Latest => true,
-        Which::Named(timestamp) => item.timestamp == timestamp,
+        Which::Named(named) => timestamp == named,
     }
 }
 
-// Whether a get that asks so looks at the item, where that is neither got nor consumed by name.
-fn is_tried(connection: Connection, which: Which, item: Item) -> bool
-    ensures { λ r. ⌜ r ≡ (lookedAt connection item && isWanted which item) ⌝ }
+// Whether a search that asks so looks at the timestamp.
+fn is_tried(mark: u32, which: Which, timestamp: u32) -> bool
+    ensures { λ r. ⌜ r ≡ (leb mark timestamp && isWanted which timestamp) ⌝ }
 {
-    if !connection.looks_at(item) {
+    if timestamp < mark {
         return false;
     }
-    is_wanted(which, item)
+    is_wanted(which, timestamp)
 }
 
-// What a get through the connection finds among the items UNSEEN on it.
-pub fn seek(items: Items, present: u64, connection: Connection, which: Which) -> Found
-    ensures { λ r. ⌜ r ≡ sought (table present items) connection which ⌝ }
+// What a search that asks so takes among the places, of the timestamps not below the mark.
+pub fn choose(timestamps: &Timestamps, places: u64, mark: u32, which: Which) -> Found
+    ensures { λ r. ⌜ r ≡ chosenFrom (now (timestamps .entry)) places mark which ⌝ }
 {
     let mut found = Found::Nothing;
-    let mut rest = unseen_places(connection, present);
+    let mut rest = places;
     let mut p = words::lowest(rest);
-    while p < Item::PLACES {
+    while p < ITEMS {
         let place = p;
-        let item = items[p as usize];
+        let timestamp = timestamp_at(timestamps, p);
         rest = words::without(rest, p);
         p = words::lowest(rest);
-        if is_tried(connection, which, item) {
-            found = found.or_taken(which, place, item);
+        if is_tried(mark, which, timestamp) {
+            found = found.or_taken(which, place, timestamp);
         }
     }
     found
+}
+
+// What a get through the connection finds among the items UNSEEN on it.
+pub fn seek(timestamps: &Timestamps, connection: Connection, which: Which) -> Found
+    ensures { λ r. ⌜ r ≡ sought (now (timestamps .entry)) connection which ⌝ }
+{
+    choose(
+        timestamps,
+        connection.unseen_places(),
+        connection.mark,
+        which,
+    )
 }

@@ -3,7 +3,7 @@ use mathlib.Core.Path.{_≡_, refl}
 use mathlib.Core.Bool.{true, false}
 use Prim.Native.Nat.{_+_, _*_}
 use Rattle.words.specs.Places.{foldTo, countOf, lowestOf, wordOf}
-use Rattle.words.specs.Words.{has, with, without, both, except, lowest, lowestFree, count}
+use Rattle.words.specs.Words.{has, with, without, both, either, except, lowest, lowestFree, count}
 
 -- the steps at 0, 1, 2 and 3, each written behind the one before
 fold-in-line : foldTo (λ p x. x * 10 + p) 7 4 ≡ 70123
@@ -53,6 +53,10 @@ without-far = refl
 both-some : both 12 10 ≡ 8
 unfolding has wordOf both
 both-some = refl
+
+either-some : either 12 10 ≡ 14
+unfolding has wordOf either
+either-some = refl
 
 except-some : except 12 10 ≡ 4
 unfolding has wordOf except

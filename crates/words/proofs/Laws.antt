@@ -11,7 +11,7 @@ use lib.Dec.{eqb, ltb}
 use lib.Pow.{pow-pos}
 use borrow.Author.Tests.{eq-eqb, eqb-false, eqb-true, le-ltb, lt-ltb, ltb-false, ltb-true, ne-eqb, not-false, not-true}
 use Rattle.words.specs.Places.{countOf, lowestOf, wordOf}
-use Rattle.words.specs.Words.{both, count, except, has, lowest, lowestFree, with, without, wordPlaces}
+use Rattle.words.specs.Words.{both, count, either, except, has, lowest, lowestFree, with, without, wordPlaces}
 use Rattle.words.proofs.Digits.{has-from, has-top, num, num-le, same-places}
 
 -- ---- a word and its places
@@ -68,6 +68,14 @@ pub has-without : (w p i : ℕ) → has (without w p) i ≡ (ltb i wordPlaces &&
 unfolding without
 has-without w p = has-wordOf (λ i. has w i && not (eqb i p)) wordPlaces
 
+pub has-both : (a b i : ℕ) → has (both a b) i ≡ (ltb i wordPlaces && (has a i && has b i))
+unfolding both
+has-both a b = has-wordOf (λ i. has a i && has b i) wordPlaces
+
+pub has-either : (a b i : ℕ) → has (either a b) i ≡ (ltb i wordPlaces && (has a i || has b i))
+unfolding either
+has-either a b = has-wordOf (λ i. has a i || has b i) wordPlaces
+
 pub has-except : (a b i : ℕ) → has (except a b) i ≡ (ltb i wordPlaces && (has a i && not (has b i)))
 unfolding except
 has-except a b = has-wordOf (λ i. has a i && not (has b i)) wordPlaces
@@ -117,6 +125,10 @@ without-past w p h l = wordOf-is (λ i. has w i && not (eqb i p)) w h (λ i k. g
 pub both-at : (a b : ℕ) {i : ℕ} → i < wordPlaces → has (both a b) i ≡ (has a i && has b i)
 unfolding both
 both-at a b = has-wordOf-in (λ i. has a i && has b i)
+
+pub either-at : (a b : ℕ) {i : ℕ} → i < wordPlaces → has (either a b) i ≡ (has a i || has b i)
+unfolding either
+either-at a b = has-wordOf-in (λ i. has a i || has b i)
 
 pub except-at : (a b : ℕ) {i : ℕ} → i < wordPlaces → has (except a b) i ≡ (has a i && not (has b i))
 unfolding except

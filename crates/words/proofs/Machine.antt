@@ -10,7 +10,7 @@ use lib.Count.{ones, ones-step, trailingZeros, under}
 use lib.Dec.{eqb}
 use lib.Pow.{ones-sub-lt, pow-lt, pow-pos}
 use Rattle.words.specs.Places.{countOf, lowestOf}
-use Rattle.words.specs.Words.{both, count, except, has, lowest, lowestFree, with, without, wordPlaces}
+use Rattle.words.specs.Words.{both, count, either, except, has, lowest, lowestFree, with, without, wordPlaces}
 use Rattle.words.proofs.Digits.{has-first, has-next, has-none, has-top, num-injective}
 use Rattle.words.proofs.Laws.{count-ext, count-first, lowest-ext, wordOf-is}
 
@@ -113,6 +113,11 @@ without-is w p h l =
 pub both-is : (a b : ℕ) → a < 2 ^ wordPlaces → b < 2 ^ wordPlaces → bitAnd a b ≡ both a b
 unfolding both
 both-is a b h k = wordOf-is (λ i. has a i && has b i) (bitAnd a b) (and-lt wordPlaces a b h k) (λ i l. has-and a b i)
+
+-- `a | b`
+pub either-is : (a b : ℕ) → a < 2 ^ wordPlaces → b < 2 ^ wordPlaces → bitOr a b ≡ either a b
+unfolding either
+either-is a b h k = wordOf-is (λ i. has a i || has b i) (bitOr a b) (or-lt wordPlaces a b h k) (λ i l. has-or a b i)
 
 -- `a & !b`
 pub except-is : (a b : ℕ) → a < 2 ^ wordPlaces → b < 2 ^ wordPlaces → bitAnd a ((2 ^ wordPlaces - 1) - b) ≡ except a b

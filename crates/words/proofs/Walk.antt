@@ -9,7 +9,6 @@ use native.Mathlib.Omega.{arith}
 use Rattle.words.specs.Places.{each, foldTo}
 use Rattle.words.specs.Words.{count, has, lowest, without, wordPlaces}
 use Rattle.words.proofs.Laws.{count-without, lowest-below, lowest-has, without-other, without-same}
-use Rattle.words.proofs.YesOrNo.{cond-same}
 
 module _ {B : Type 0} where
   -- a step that is taken at the places of the word alone
@@ -135,21 +134,3 @@ each-keeps P test step b start taken passed-over (suc n) =
 -- the places below the next one are this one and those below it
 pub and-this : (P : ℕ → Type 0) {n : ℕ} → P n → ((i : ℕ) → i < n → P i) → (i : ℕ) → i < suc n → P i
 and-this P here earlier i below = ⊎-elim (λ same. subst P (sym same) here) (earlier i) (eq-or-lt-of-le (le-of-suc-le-suc below))
-
--- steps that change nothing
-pub each-same : {B : Type 0} (n : ℕ) (counts : ℕ → Bool) (f : ℕ → B → B) (x : B) → ((i : ℕ) → f i x ≡ x) → each n counts f x ≡ x
-unfolding each foldTo
-each-same zero counts f x same = refl
-each-same {B} (suc n) counts f x same =
-    rw (each-same n counts f x same) (ap (λ (y : B). cond (counts n) y x) (same n) ∙ cond-same (counts n) x)
-
--- ---- a loop within a loop
-
--- the word of the inner loop is empty where the inner loop is not wanted
-pub each-where : {B : Type 0} (n : ℕ) (f : ℕ → B → B) (b : B) (w : ℕ) {wanted : Bool} {v : ℕ} {x : B}
-    → v ≡ cond wanted w 0
-    → x ≡ each n (has v) f b
-    → wanted ≡ true
-    → x ≡ each n (has w) f b
-each-where n f b w {wanted} {v} {x} word result holds =
-    result ∙ ap (λ (u : ℕ). each n (has u) f b) (word ∙ ap (λ (t : Bool). cond t w 0) holds)

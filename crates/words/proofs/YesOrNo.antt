@@ -1,5 +1,6 @@
 -- What a yes or a no says of what it was made of. Each law is by looking at both answers. Assumes nothing.
-use mathlib.Core.Bool.{Bool, _&&_, cond, false, false≢true, true, true≢false}
+use mathlib.Core.Bool.{Bool, _&&_, _||_, cond, false, false≢true, or-true, true, true≢false}
+use mathlib.Core.Logic.{_⊎_, inl, inr}
 use mathlib.Core.Path.{_∙_, _≡_, ap, refl, sym}
 
 pub true-not-false : {b : Bool} → b ≡ true → b ≡ false → ⊥
@@ -15,6 +16,16 @@ and-right false b both = absurd (false≢true both)
 
 pub and-both : {a b : Bool} → a ≡ true → b ≡ true → (a && b) ≡ true
 and-both {a} {b} left right = ap (λ (x : Bool). x && b) left ∙ right
+
+pub or-left : {a : Bool} (b : Bool) → a ≡ true → (a || b) ≡ true
+or-left b left = ap (λ (x : Bool). x || b) left
+
+pub or-right : (a : Bool) {b : Bool} → b ≡ true → (a || b) ≡ true
+or-right a right = ap (λ (x : Bool). a || x) right ∙ or-true a
+
+pub or-one : (a b : Bool) → (a || b) ≡ true → (a ≡ true) ⊎ (b ≡ true)
+or-one true b one = inl refl
+or-one false b one = inr one
 
 pub bool-cases : {P : Type 0} (b : Bool) → (b ≡ true → P) → (b ≡ false → P) → P
 bool-cases true if-true if-false = if-true refl

@@ -24,6 +24,10 @@ without w p = wordOf (λ i. has w i && not (eqb i p)) wordPlaces
 unfoldable pub both : ℕ → ℕ → ℕ
 both a b = wordOf (λ i. has a i && has b i) wordPlaces
 
+-- the places that are in one of the words, or in both
+unfoldable pub either : ℕ → ℕ → ℕ
+either a b = wordOf (λ i. has a i || has b i) wordPlaces
+
 -- the places of a that are not in b
 unfoldable pub except : ℕ → ℕ → ℕ
 except a b = wordOf (λ i. has a i && not (has b i)) wordPlaces

@@ -1,6 +1,7 @@
 // A u64 as a set of 64 places.
 ghost use mathlib.Core.Path.{_≡_};
-ghost use Rattle.words.specs.Words.{has, with, without, both, except, lowest, lowestFree, count};
+ghost use mathlib.Core.Bool.{cond};
+ghost use Rattle.words.specs.Words.{has, with, without, both, either, except, lowest, lowestFree, count};
 
 // A word has the places 0 to 63.
 const PLACES: u32 = 64;
@@ -25,6 +26,16 @@ pub fn with(word: u64, place: u32) -> u64
     word | (1 << place)
 }
 
+// The word with the place where the test holds.
+pub fn with_if(holds: bool, word: u64, place: u32) -> u64
+    ensures { λ r. ⌜ r ≡ cond holds (with word place) word ⌝ }
+{
+    if holds {
+        return with(word, place);
+    }
+    word
+}
+
 // The word without the place; the word itself for a place past the last.
 pub fn without(word: u64, place: u32) -> u64
     ensures { λ r. ⌜ r ≡ without word place ⌝ }
@@ -40,6 +51,13 @@ pub fn both(a: u64, b: u64) -> u64
     ensures { λ r. ⌜ r ≡ both a b ⌝ }
 {
     a & b
+}
+
+// The places that are in one of the words, or in both.
+pub fn either(a: u64, b: u64) -> u64
+    ensures { λ r. ⌜ r ≡ either a b ⌝ }
+{
+    a | b
 }
 
 // The places of a that are not in b.

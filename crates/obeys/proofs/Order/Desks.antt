@@ -1,110 +1,166 @@
--- A desk in order stays so where one table changes, by the law of that table: one row of the threads or connections, a new item, a thread's end, items that
--- leave, raised marks. Assumes nothing.
-use Rattle.obeys.proofs.Basis.{_≡_, refl, false, true, List, _<_, _≤_, ℕ, arith, getD, set, has, except, cleared, never, noConnection, noThread, Row, Item, Thread, bool-cases, placeOf, connectionAt, connectionPlaces}
-use Rattle.obeys.proofs.Basis.{itemPlaces, table, threadPlaces, freedConnections, itemsBelow, ownedBy, raisedInput, ended, freeItem, left, raisedTo, stored, swept, connectionsOf, itemsOf, withConnections, withThreads, Desk}
-use Rattle.obeys.proofs.Basis.{ConnectionInOrder, DeskInOrder, Tidy, Elsewhere, without-elsewhere, except-was, tidy-set, all-set, still-stands, items-stored, standing, cleared-in-order, tidy-thinned, thinned-row}
-use Rattle.obeys.proofs.Basis.{items-left, stands-left, changed-tidy, all-changed, raised-input-in-order}
+-- A desk in order stays so by each effect: by the law of each kind that it changes, and because each input connection, read across the columns afterwards,
+-- is the one that was, or what the effect makes of it. Assumes nothing.
+use Rattle.obeys.proofs.Basis.{Bool, false, true, List, _≢_, _≡_, ap, refl, subst, sym, _<_, _≤_, ℕ, ℕ-discrete, arith, set, has, with, with-there}
+use Rattle.obeys.proofs.Basis.{same-elsewhere, with-elsewhere, without-elsewhere, except-was, except-kept, free-lacks, true-not-false, never, Row}
+use Rattle.obeys.proofs.Basis.{connectionIn, connectionPlaces, channelPlaces, itemPlaces, threadPlaces, ConnectionInOrder, placeOf, at-set-other}
+use Rattle.obeys.proofs.Basis.{at-set-same, connection-is, new-in-order, raised-in-order, standing, cleared-in-order, tidy-set, in-use-has, used-inside}
+use Rattle.obeys.proofs.Basis.{tidy-lessened, tidy-raised, adopted, attachedTo, ended, freed, left, raisedTo, stored, swept, freeChannel, freeConnection}
+use Rattle.obeys.proofs.Basis.{freeItem, freeThread, leaving, attached, connectionAt, isChannel, isLiving, itemsIn, leadsTo, ownedBy, withChannels}
+use Rattle.obeys.proofs.Basis.{withThreads, Desk, DeskInOrder, ThreadsInOrder}
+use Rattle.words.proofs.Changes.{except-itself, with-stays}
+use Rattle.tables.specs.Columns.{at}
+use Rattle.tables.proofs.Stored.{still-held}
+use Rattle.tables.proofs.Tidy.{tidy-more}
+use Rattle.leaving.proofs.Connections.{connection-kept, connection-left, connection-raised}
+use Rattle.obeys.proofs.Order.Threads.{owned-set, time-set}
+use Rattle.obeys.proofs.Order.Connections.{attached-as, freed-of, more-channels, no-input, other-seen, reading-elsewhere}
+use Rattle.obeys.proofs.Order.Items.{channel-added, item-added, items-left}
 
 module _ {d : Desk} (o : DeskInOrder d) where
-  -- ---- threads and connections
+  -- ---- channels
 
-  other-threads : {living : ℕ} {threads : List Thread} → Tidy threadPlaces noThread (table living threads)
-      → ((thread : ℕ) → has living thread ≡ true → getD threads thread noThread .time ≤ never) → DeskInOrder (withThreads d living threads)
-  other-threads {living} tidy times = record {
-    threads = tidy;
-    connections = o .connections;
-    items = o .items;
-    channels = o .channels;
-    times = λ thread. bool-cases (has living thread) (times thread) (λ unused. rw (tidy .free thread unused) (omega arith));
-    attached = o .attached;
-  }
-
-  pub thread-set : {living : ℕ} (thread time : ℕ) → Elsewhere living (d .living) thread → thread < threadPlaces → (has living thread ≡ false → time ≡ 0) → time ≤ never
-      → DeskInOrder (withThreads d living (set (d .threads) thread (record { time = time })))
-  thread-set thread time else below freed top =
-      let row : Thread = record { time = time } in
-      other-threads
-      (tidy-set (o .threads) (omega arith) else below row (λ unused i. record { time = freed unused i }))
-      (all-set (o .threads) (omega arith) else below row (λ (row : Thread). row .time ≤ never) (λ _. top) (λ other _. o .times other))
-
-  other-connections : {attached : ℕ} {connections : List Row} → Tidy connectionPlaces noConnection (table attached connections)
-      → ((connection : ℕ) → has attached connection ≡ true → ConnectionInOrder (itemsOf d) (getD connections connection noConnection))
-      → DeskInOrder (withConnections d attached connections)
-  other-connections tidy each-one = record {
+  pub channel-in-order : freeChannel d < channelPlaces → DeskInOrder (withChannels d (with (d .channels) (freeChannel d)))
+  channel-in-order fits = record {
     threads = o .threads;
-    connections = tidy;
-    items = o .items;
-    channels = o .channels;
-    times = o .times;
-    attached = each-one;
+    connections = more-channels (o .connections) (λ channel there. let below : channel < channelPlaces = o .items .channels channel there in
+        with-stays (d .channels) (freeChannel d) channel (omega arith) there);
+    items = channel-added (o .items) (freeChannel d) fits;
+    seen = o .seen;
   }
 
-  pub connection-set : {attached : ℕ} (connection : ℕ) (row : Row) → Elsewhere attached (d .attached) connection → connection < connectionPlaces
-      → (has attached connection ≡ false → row ≡ noConnection) → (has attached connection ≡ true → ConnectionInOrder (itemsOf d) row)
-      → DeskInOrder (withConnections d attached (set (d .connections) connection row))
-  connection-set connection row else below freed good =
-      other-connections
-      (tidy-set (o .connections) (omega arith) else below row freed)
-      (all-set (o .connections) (omega arith) else below row (ConnectionInOrder (itemsOf d)) good (o .attached))
+  -- ---- threads
 
--- ---- an end
+  other-threads : {living : ℕ} {times : List ℕ} → ThreadsInOrder living times (d .owned) → DeskInOrder (withThreads d living times)
+  other-threads threads = record { threads = threads; connections = o .connections; items = o .items; seen = o .seen }
 
-module _ {d : Desk} (o : DeskInOrder d) (thread : ℕ) (below : thread < threadPlaces) where
-  abbrev owned : ℕ
-  owned = ownedBy (connectionsOf d) thread
+  pub adopted-in-order : freeThread d < threadPlaces → (time : ℕ) → time ≤ never → DeskInOrder (adopted d time)
+  unfolding adopted
+  adopted-in-order fits time top =
+      other-threads
+      (time-set (o .threads) (freeThread d) fits (with-elsewhere (d .living) (freeThread d))
+      (tidy-more (o .threads .owned) (λ thread inside. with-stays (d .living) (freeThread d) thread (omega arith))) time top
+      (λ dead. absurd (with-there (d .living) {p = freeThread d} (omega arith) dead)))
 
-  connections-freed : DeskInOrder (withConnections d (except (d .attached) owned) (freedConnections (d .connections) owned))
-  unfolding freedConnections
-  connections-freed =
-      other-connections o (tidy-thinned (o .connections) (omega arith) owned)
-      (λ connection left. rw (thinned-row (o .connections) (omega arith) owned connection left)
-      (o .attached connection (except-was (d .attached) owned connection left)))
+  pub time-in-order : (thread : ℕ) → isLiving d thread ≡ true → (time : ℕ) → time ≤ never
+      → DeskInOrder (withThreads d (d .living) (set (d .times) thread time))
+  time-in-order thread lives time top =
+      other-threads
+      (time-set (o .threads) thread (used-inside (d .living) lives) (same-elsewhere (d .living) thread) (o .threads .owned) time top
+      (λ dead. absurd (true-not-false (in-use-has (d .living) thread threadPlaces lives) dead)))
 
-  pub ended-in-order : DeskInOrder (ended d thread)
-  unfolding ended
-  ended-in-order = thread-set connections-freed thread 0 (without-elsewhere (d .living) thread) below (λ _. refl) (omega arith)
+  -- ---- a thread's connections
 
--- ---- a new item, whose pair of channel and timestamp no present item has
+  module _ (thread : ℕ) (lives : isLiving d thread ≡ true) where
+    below : thread < threadPlaces
+    below = used-inside (d .living) lives
 
-pub stored-in-order : {d : Desk} → DeskInOrder d → (item : Item) → freeItem d < itemPlaces → item .timestamp < never
-    → itemPlaces ≤ placeOf (itemsOf d) (item .channel) (item .timestamp) → DeskInOrder (stored d item)
-unfolding stored
-stored-in-order {d} o item fits stamped new = record {
-  threads = o .threads;
-  connections = o .connections;
-  items = items-stored (o .items) item fits stamped new;
-  channels = o .channels;
-  times = o .times;
-  attached = λ connection used. standing (o .attached connection used) _ (still-stands (o .items) item fits (connectionAt (connectionsOf d) connection));
-}
+    living : has (d .living) thread ≡ true
+    living = in-use-has (d .living) thread threadPlaces lives
 
--- ---- the marks are raised
+    pub attached-in-order : freeConnection d < connectionPlaces → (channel : ℕ) → isChannel d channel ≡ true → (reads : Bool) (mark : ℕ) → mark ≤ never
+        → (reads ≡ false → mark ≡ 0) → DeskInOrder (attachedTo d reads thread channel mark)
+    unfolding attachedTo
+    attached-in-order fits channel exists reads mark top unmarked = record {
+      threads = owned-set (o .threads) thread below living _;
+      connections = attached-as (o .connections) free fits lacks reads (o .threads .owned .sized) thread below channel
+          (in-use-has (d .channels) channel channelPlaces exists) mark unmarked;
+      items = o .items;
+      seen = λ connection there. elim (ℕ-discrete connection free) [
+        | yes same ↦ rw same new
+        | no apart ↦ subst ConnectionInOrder (sym (beside connection apart))
+            (o .seen connection (reading-elsewhere (o .connections) free fits lacks reads .was connection apart there))
+      ];
+    }
+      where
+        free : ℕ
+        free = freeConnection d
 
-pub raised-to-in-order : {d : Desk} → DeskInOrder d → (bound : ℕ) → bound ≤ never → DeskInOrder (raisedTo d bound)
-unfolding raisedTo
-raised-to-in-order {d} o bound top =
-    let rule : Row → Row = λ row. raisedInput row bound in
-    other-connections o (changed-tidy (connectionsOf d) rule (o .connections))
-    (all-changed (connectionsOf d) rule (o .connections) (ConnectionInOrder (itemsOf d)) (λ connection used. raised-input-in-order (o .attached connection used) bound top))
+        lacks : has (attached d) free ≡ false
+        lacks = free-lacks (attached d) (omega arith)
 
--- ---- items leave
+        row : ℕ → Row
+        row = connectionIn (set (d .leads) free channel) (d .held) (set (d .marks) free mark) (d .opened) (d .consumed)
 
-pub left-in-order : {d : Desk} → DeskInOrder d → (gone : ℕ) → DeskInOrder (left d gone)
-unfolding left
-left-in-order {d} o gone =
-    let rule : Row → Row = λ row. cleared row gone in
-    record {
-      threads = o .threads;
-      connections = changed-tidy (connectionsOf d) rule (o .connections);
-      items = items-left (o .items) gone;
-      channels = o .channels;
-      times = o .times;
-      attached = all-changed (connectionsOf d) rule (o .connections) (ConnectionInOrder _)
-          (λ connection used. cleared-in-order (o .attached connection used) _ gone (stands-left (o .items) gone (connectionAt (connectionsOf d) connection)));
+        unseen : has (d .inputs) free ≡ false
+        unseen = no-input (o .connections) free fits lacks
+
+        new : ConnectionInOrder (row free)
+        new =
+            new-in-order (row free) (rw (at-set-same connectionPlaces (d .marks) free mark fits (o .connections .marks .sized)) top)
+            (o .connections .opened .free free unseen) (o .connections .consumed .free free unseen)
+
+        beside : (connection : ℕ) → connection ≢ free → row connection ≡ connectionAt d connection
+        beside connection apart =
+            connection-is (connectionAt d connection)
+            (ap (at channelPlaces (d .held)) (at-set-other connectionPlaces (d .leads) free channel connection apart))
+            (at-set-other connectionPlaces (d .marks) free mark connection apart) refl refl
+
+    pub freed-in-order : (gone : ℕ) → ((connection : ℕ) → has gone connection ≡ true → has (ownedBy d thread) connection ≡ true)
+        → DeskInOrder (freed d thread gone)
+    unfolding freed
+    freed-in-order gone its = record {
+      threads = owned-set (o .threads) thread below living _;
+      connections = freed-of (o .connections) (o .threads .owned .sized) thread below gone its;
+      items = o .items;
+      seen = λ connection there. subst ConnectionInOrder
+          (sym (connection-kept gone connection (except-kept (d .inputs) gone connection there) (d .leads) (d .held) (d .marks) (d .opened) (d .consumed)
+          (o .connections .leads .sized) (o .connections .marks .sized) (o .connections .opened .sized) (o .connections .consumed .sized)))
+          (o .seen connection (except-was (d .inputs) gone connection there));
     }
 
--- ---- a sweep
+    pub ended-in-order : DeskInOrder (ended d thread)
+    unfolding ended freed
+    ended-in-order =
+        let alone = freed-in-order (ownedBy d thread) (λ connection its. its) in
+        record {
+          threads = time-set (o .threads) thread below (without-elsewhere (d .living) thread)
+              (tidy-set (o .threads .owned) (omega arith) (without-elsewhere (d .living) thread) below _ (λ dead. except-itself (ownedBy d thread)))
+              0 (omega arith) (λ dead. refl);
+          connections = alone .connections;
+          items = alone .items;
+          seen = alone .seen;
+        }
+
+  -- ---- items
+
+  pub stored-in-order : freeItem d < itemPlaces → (channel : ℕ) → has (d .channels) channel ≡ true → (timestamp ticket : ℕ) → timestamp < never
+      → itemPlaces ≤ placeOf (d .timestamps) (itemsIn d channel) timestamp → DeskInOrder (stored d channel timestamp ticket)
+  unfolding stored
+  stored-in-order fits channel exists timestamp ticket given new = record {
+    threads = o .threads;
+    connections = o .connections;
+    items = item-added (o .items) (freeItem d) fits (free-lacks (d .present) fits) channel exists timestamp given new ticket;
+    seen = λ connection there. standing (o .seen connection there) _
+        (still-held (d .held) (o .items .held .sized) channel (o .items .channels channel exists) (freeItem d) (leadsTo d connection)
+        (λ place there. o .items .present place (o .items .lies .within (leadsTo d connection) place there)));
+  }
+
+  left-in-order : (gone : ℕ) → DeskInOrder (left d gone)
+  unfolding left
+  left-in-order gone = record {
+    threads = o .threads;
+    connections = other-seen (o .connections) (o .connections .marks)
+        (tidy-lessened (o .connections .opened) gone) (tidy-lessened (o .connections .consumed) gone);
+    items = items-left (o .items) gone;
+    seen = λ connection there. subst ConnectionInOrder
+        (sym (connection-left (d .leads) (d .held) (d .marks) (d .opened) (d .consumed) connection
+        (o .items .held .sized) (o .connections .opened .sized) (o .connections .consumed .sized) gone))
+        (cleared-in-order (o .seen connection there) gone);
+  }
+
+  raised-to-in-order : (bound : ℕ) → bound ≤ never → DeskInOrder (raisedTo d bound)
+  unfolding raisedTo
+  raised-to-in-order bound top = record {
+    threads = o .threads;
+    connections = other-seen (o .connections)
+        (tidy-raised (o .connections .marks) (d .inputs) bound (λ connection there. there)) (o .connections .opened) (o .connections .consumed);
+    items = o .items;
+    seen = λ connection there. subst ConnectionInOrder
+        (sym (rw there at (connection-raised (d .leads) (d .held) (d .marks) (d .opened) (d .consumed) connection
+        (o .connections .marks .sized) (d .inputs) (o .connections .inputs) bound)))
+        (raised-in-order (o .seen connection there) bound top);
+  }
 
 pub swept-in-order : {d : Desk} → DeskInOrder d → (bound : ℕ) → bound ≤ never → DeskInOrder (swept d bound)
 unfolding swept
-swept-in-order {d} o bound top = raised-to-in-order (left-in-order o (itemsBelow (itemsOf d) bound)) bound top
+swept-in-order {d} o bound top = raised-to-in-order (left-in-order o (leaving d bound)) bound top

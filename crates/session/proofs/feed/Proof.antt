@@ -1,6 +1,7 @@
 -- After some bytes of the part, the reader, the bytes used and the text in out are those that the definitions say (`Fed`), and a byte more keeps
 -- this: it joins the line, or ends it, is answered and leaves the text behind the answer. Assumes nothing.
-use mathlib.Core.Path.{_≡_, refl, sym}
+use mathlib.Core.Logic.{inl, inr}
+use mathlib.Core.Path.{_≡_, refl, sym, _∙_}
 use Prim.Native.Nat.{_+_, _≤_, _-_}
 use native.Mathlib.Omega.{arith}
 use borrow.Author.Needs.{needs}
@@ -9,7 +10,7 @@ use lib.ListN.{length, length-set}
 use lib.Seq.{length-take-le}
 use Rattle.text.specs.Text.{answerRoom}
 use Rattle.session.specs.Stream.{lineKept, reader}
-use Rattle.session.proofs.Turning.{turn-written}
+use Rattle.session.proofs.Turning.{Ran, deed-ran, sweep-ran, unreadable-ran, turn-written}
 use Rattle.session.proofs.Feeding.{Fed, fed-none, fed-joins, fed-ends, fed-length, fed-all, fed-waits, fed-promised, kept-line}
 use Rattle.session.proofs.feed.Statement.{statement}
 use Rattle.session.proofs.feed.Tie as tie
@@ -46,19 +47,40 @@ sub-if3 c =
 slice-aggregate-read : tie.Need-slice-aggregate-read Inv-loop μ-loop
 slice-aggregate-read c = sym (length-take-le _ _ (omega arith))
 
+ran : (c : tie.At-match-came Inv-loop μ-loop)
+    → Ran (c .before .before .before .before .before .before .before .before .loop .desk) (c .before .read .result) (c .match .answer) (c .match .count) (c .match .slice) (c .match .desk)
+ran c =
+    elim (c .match .came) [
+      | inl w ↦ deed-ran (w .1 .given .1) (w .4 .given .1) (w .7 .given .1) (w .8 .ensures) (w .11) (w .12) (w .13) (w .14)
+      | inr (inl w) ↦ deed-ran (w .1 .given .1) (w .4 .given .1) (w .7 .given .1) (w .9 .ensures) (w .12) (w .13) (w .14) (w .15)
+      | inr (inr (inl w)) ↦ deed-ran (w .1 .given .1) (w .4 .given .1) (w .7 .given .1) (w .9 .ensures) (w .12) (w .13) (w .14) (w .15)
+      | inr (inr (inr (inl w))) ↦ deed-ran (w .1 .given .1) (w .4 .given .1) (w .7 .given .1) (w .9 .ensures) (w .12) (w .13) (w .14) (w .15)
+      | inr (inr (inr (inr (inl w)))) ↦ deed-ran (w .1 .given .1) (w .4 .given .1) (w .7 .given .1) (w .9 .ensures) (w .12) (w .13) (w .14) (w .15)
+      | inr (inr (inr (inr (inr (inl w))))) ↦ deed-ran (w .1 .given .1) (w .4 .given .1) (w .7 .given .1) (w .8 .ensures) (w .11) (w .12) (w .13) (w .14)
+      | inr (inr (inr (inr (inr (inr (inl w)))))) ↦ deed-ran (w .1 .given .1) (w .4 .given .1) (w .7 .given .1) (w .9 .ensures) (w .12) (w .13) (w .14) (w .15)
+      | inr (inr (inr (inr (inr (inr (inr (inl w))))))) ↦ deed-ran (w .1 .given .1) (w .4 .given .1) (w .7 .given .1) (w .9 .ensures) (w .12) (w .13) (w .14) (w .15)
+      | inr (inr (inr (inr (inr (inr (inr (inr (inl w)))))))) ↦ deed-ran (w .1 .given .1) (w .4 .given .1) (w .7 .given .1) (w .9 .ensures) (w .12) (w .13) (w .14) (w .15)
+      | inr (inr (inr (inr (inr (inr (inr (inr (inr (inl w))))))))) ↦ deed-ran (w .1 .given .1) (w .4 .given .1) (w .7 .given .1) (w .9 .ensures) (w .12) (w .13) (w .14) (w .15)
+      | inr (inr (inr (inr (inr (inr (inr (inr (inr (inr (inl w)))))))))) ↦ deed-ran (w .1 .given .1) (w .4 .given .1) (w .7 .given .1) (w .9 .ensures) (w .12) (w .13) (w .14) (w .15)
+      | inr (inr (inr (inr (inr (inr (inr (inr (inr (inr (inr (inl w))))))))))) ↦ sweep-ran (w .1 .given .1) (w .4 .given .1) (w .7 .ensures) (w .7 .kept .1 .1 .0) (w .12) (w .13) (w .14) (w .15 ∙ w .11 .ensures)
+      | inr (inr (inr (inr (inr (inr (inr (inr (inr (inr (inr (inr w))))))))))) ↦ unreadable-ran (w .1 .given .1) (w .2) (w .3) (w .4) (w .5)
+    ]
+
+slice-aggregate-write-answer : tie.Need-slice-aggregate-write-answer Inv-loop μ-loop
+slice-aggregate-write-answer c = sym (ran (c .before .before) .long)
+
 loop-again-3 : tie.Need-loop-again-3 Inv-loop μ-loop
 loop-again-3 c =
     let wrote = c .before .before in
-    let counted = wrote .before .before .before in
-    let ran = counted .before .before .before .before in
-    let reading = ran .before .before in
+    let met = wrote .before .before .before in
+    let reading = met .before in
     let lent = reading .before .before in
     let roomy = lent .before in
     let entered = roomy .before .before .before in
     let looped = entered .before .loop in
     let fits : looped .at + answerRoom ≤ length (looped .out) = omega (arith, roomy .if3 .left) in
     let line = kept-line (looped .line) (looped .held) _ (lent .kept .ensures) (looped .inv .1) in
-    let turned = turn-written _ _ _ _ _ _ _ _ _ _ (reading .read .ensures) (ran .run .ensures) (counted .ticket-count .ensures) (ran .run .kept .1 .1 .0) fits (wrote .write-answer .ensures) in (
+    let turned = turn-written _ _ _ _ _ _ _ _ _ _ _ (reading .read .ensures) (ran met) fits (wrote .write-answer .ensures) in (
       fed-ends _ _ _ _ _ _ _ (looped .inv .0) _ (entered .loop-test .taken) refl _ _ _ _ line
           (eq-eqb _ _ (roomy .before .if1 .left)) fits (wrote .write-answer .kept .0) turned,
       looped .inv .1,
@@ -103,9 +125,35 @@ feed-spec =
     slice-aggregate-read
     (λ c κs. search needs)
     (λ c. search needs)
+    (λ c. search needs)
+    (λ c. search needs)
+    (λ c κs. search needs)
+    (λ c. search needs)
+    (λ c κs. search needs)
+    (λ c. search needs)
+    (λ c κs. search needs)
+    (λ c. search needs)
+    (λ c κs. search needs)
+    (λ c. search needs)
+    (λ c κs. search needs)
+    (λ c. search needs)
+    (λ c κs. search needs)
+    (λ c. search needs)
+    (λ c κs. search needs)
+    (λ c. search needs)
+    (λ c κs. search needs)
+    (λ c. search needs)
+    (λ c κs. search needs)
+    (λ c. search needs)
+    (λ c κs. search needs)
+    (λ c. search needs)
+    (λ c κs. search needs)
+    (λ c. search needs)
+    (λ c. search needs)
     (λ c κs. search needs)
     (λ c κs. search needs)
     (λ c. search needs)
+    slice-aggregate-write-answer
     (λ c κs. search needs)
     (λ c. omega arith)
     loop-again-3

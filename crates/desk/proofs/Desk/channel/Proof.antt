@@ -32,13 +32,16 @@ code-of c =
 answer-of : (c : tie.After-with-code) → let checked = c .before in
     Answered (checks (desk-of checked) (call-of checked)) (told (desk-of checked) (call-of checked)) (checked .needs2 .result) (c .with-code .result)
 unfolding checks told
-answer-of c = answered _ _ refl (code-of (c .before)) (c .with-code .ensures ∙ ap (λ (n : ℕ). withCode (c .before .needs2 .result) (tells n 0)) (c .before .before .before .before .lowest-free .ensures))
+answer-of c =
+    let free = c .before .before .before .before .lowest-free .ensures in
+    answered _ _ refl (code-of (c .before)) (c .with-code .ensures ∙ ap (λ (n : ℕ). withCode (c .before .needs2 .result) (tells n 0)) free)
 
 returns : tie.Need-returns
 unfolding step effect
 returns c =
     let answering = c .before .before in
-    rw (c .with .ensures, answering .before .before .before .before .lowest-free .ensures) (accepted (desk-of (answering .before)) _ (answer-of answering) (c .before .if1 .taken))
+    rw (c .with .ensures, answering .before .before .before .before .lowest-free .ensures)
+    (accepted (desk-of (answering .before)) _ (answer-of answering) (c .before .if1 .taken))
 
 returns-2 : tie.Need-returns-2
 unfolding step

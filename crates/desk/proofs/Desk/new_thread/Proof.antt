@@ -1,4 +1,4 @@
--- The codes in turn are 01's by the contracts of what the checks look at. 9 says that the lowest free place is one of the table's. Assumes nothing.
+-- The codes in turn are 01's by the contracts of what the checks look at. 9 says that the lowest free place is one of the column's. Assumes nothing.
 use mathlib.Core.Path.{_≡_, refl, _∙_}
 use borrow.Author.Needs.{needs}
 use borrow.Author.Tests.{ltb-true}
@@ -34,9 +34,9 @@ code-of c =
       lives .before .before .visible .ensures,
     )
 
-array-set-from-threads : tie.Need-array-set-from-threads
+array-write-times : tie.Need-array-write-times
 unfolding checks
-array-set-from-threads c =
+array-write-times c =
     let checked = c .before .before in
     rw (checked .before .before .before .before .lowest-free .ensures)
     (ltb-true _ _ (facts (desk-of checked) (call-of checked) refl (code-of checked) (c .if1 .taken) .held 9))
@@ -65,6 +65,6 @@ new-thread-spec =
     (λ c κs. search needs)
     (λ c. search needs)
     (λ c. search needs)
-    array-set-from-threads
+    array-write-times
     (λ c κs. search needs)
     returns)

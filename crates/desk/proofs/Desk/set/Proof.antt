@@ -1,4 +1,4 @@
--- The codes in turn are 01's by the contracts of what the checks look at. 1 says that the thread lives, so its place is one of the table's. Assumes nothing.
+-- The codes in turn are 01's by the contracts of what the checks look at. 1 says that the thread lives, so its place is one of the column's. Assumes nothing.
 use mathlib.Core.Path.{_≡_, refl}
 use borrow.Author.Needs.{needs}
 use Rattle.rows.proofs.Checks.{inTurn}
@@ -27,9 +27,9 @@ code-of c =
     let lives = c .before .before in
     simp (c .needs2 .ensures, c .before .needs .ensures, lives .in-use .ensures, lives .before .visible .ensures)
 
-array-set-from-threads : tie.Need-array-set-from-threads
+array-write-times : tie.Need-array-write-times
 unfolding checks
-array-set-from-threads c =
+array-write-times c =
     let checked = c .before .before in
     used-inside (desk-of checked .living) (facts (desk-of checked) (call-of checked) refl (code-of checked) (c .if1 .taken) .held 1)
 
@@ -52,5 +52,5 @@ set-spec =
     (λ c κs. search needs)
     (λ c κs. search needs)
     (λ c. search needs)
-    array-set-from-threads
+    array-write-times
     returns)

@@ -3,6 +3,7 @@ use mathlib.Core.List.{[], _∷_}
 use package.mir.Syntax.{w32}
 use Rattle.calls.specs.Calls.{detach}
 use Rattle.lent.proofs.Lent.{lent-of}
+use Rattle.lent.proofs.Parameters.{no-slice}
 use Rattle.desk.proofs.Desk.detach.Symbol as callee
 use Rattle.desk.proofs.Desk.detach.Met as proved
 use Rattle.lent.proofs.connections.desk_detach.Key.{name}
@@ -12,5 +13,5 @@ use Rattle.lent.proofs.connections.desk_detach.Code as code
 pub desk-detach-spec : {M : Type 1} → statement M
 unfolding code.routine
 desk-detach-spec 𝓤 H 𝓜 𝓖 𝓡 =
-    lent-of (w32 ∷ w32 ∷ []) (λ x. detach (x .0) (x .1 .0)) 𝓤 H 𝓜 𝓖 𝓡 code.env name callee.name
+    lent-of no-slice (w32 ∷ w32 ∷ []) (λ _ x. detach (x .0) (x .1 .0)) 𝓤 H 𝓜 𝓖 𝓡 code.env name callee.name
     (code.unfolded 𝓤 H 𝓜 𝓡) (proved.met 𝓤 H 𝓜 𝓖 𝓡)

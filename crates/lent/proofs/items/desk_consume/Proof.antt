@@ -3,6 +3,7 @@ use mathlib.Core.List.{[], _∷_}
 use package.mir.Syntax.{w32}
 use Rattle.calls.specs.Calls.{consume}
 use Rattle.lent.proofs.Lent.{lent-of}
+use Rattle.lent.proofs.Parameters.{no-slice}
 use Rattle.desk.proofs.Desk.consume.Symbol as callee
 use Rattle.desk.proofs.Desk.consume.Met as proved
 use Rattle.lent.proofs.items.desk_consume.Key.{name}
@@ -12,5 +13,5 @@ use Rattle.lent.proofs.items.desk_consume.Code as code
 pub desk-consume-spec : {M : Type 1} → statement M
 unfolding code.routine
 desk-consume-spec 𝓤 H 𝓜 𝓖 𝓡 =
-    lent-of (w32 ∷ w32 ∷ w32 ∷ []) (λ x. consume (x .0) (x .1 .0) (x .1 .1 .0)) 𝓤 H 𝓜 𝓖 𝓡 code.env name callee.name
+    lent-of no-slice (w32 ∷ w32 ∷ w32 ∷ []) (λ _ x. consume (x .0) (x .1 .0) (x .1 .1 .0)) 𝓤 H 𝓜 𝓖 𝓡 code.env name callee.name
     (code.unfolded 𝓤 H 𝓜 𝓡) (proved.met 𝓤 H 𝓜 𝓖 𝓡)

@@ -1,5 +1,5 @@
 -- The four tests are those of the definition, in its order, so each of the five ways out is one of its cases. Assumes nothing.
--- Below, `inside` is where the timestamp is at or above the mark and the place is an item's, and `kept` where it was not consumed by name either.
+-- Below, `inside` is where the timestamp is at or above the mark and the place is an item's, and `unopened` where it was not got either.
 use mathlib.Core.Path.{sym, _∙_}
 use borrow.Author.Needs.{needs}
 use borrow.Author.Tests.{lt-ltb, le-ltb, le-leb, lt-leb}
@@ -24,16 +24,18 @@ returns-3 c =
 returns-4 : tie.Need-returns-4
 unfolding stateOf
 returns-4 c =
-    let kept = c .before .before in
-    let inside = kept .before .before in
-    simp (le-ltb _ _ (inside .before .if1 .left), lt-leb _ _ (inside .if2 .left), sym (kept .before .has .ensures) ∙ kept .if3 .left, sym (c .before .has2 .ensures) ∙ c .if4 .taken)
+    let unopened = c .before .before in
+    let inside = unopened .before .before in
+    let not-opened = sym (unopened .before .has .ensures) ∙ unopened .if3 .left in
+    simp (le-ltb _ _ (inside .before .if1 .left), lt-leb _ _ (inside .if2 .left), not-opened, sym (c .before .has2 .ensures) ∙ c .if4 .taken)
 
 returns-5 : tie.Need-returns-5
 unfolding stateOf
 returns-5 c =
-    let kept = c .before .before in
-    let inside = kept .before .before in
-    simp (le-ltb _ _ (inside .before .if1 .left), lt-leb _ _ (inside .if2 .left), sym (kept .before .has .ensures) ∙ kept .if3 .left, sym (c .before .has2 .ensures) ∙ c .if4 .left)
+    let unopened = c .before .before in
+    let inside = unopened .before .before in
+    let not-opened = sym (unopened .before .has .ensures) ∙ unopened .if3 .left in
+    simp (le-ltb _ _ (inside .before .if1 .left), lt-leb _ _ (inside .if2 .left), not-opened, sym (c .before .has2 .ensures) ∙ c .if4 .left)
 
 pub state-of-spec : {M : Type 1} → statement M
 state-of-spec =

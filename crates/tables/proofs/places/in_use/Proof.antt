@@ -1,7 +1,7 @@
 -- The two tests, that the place is one of the table's and that it is in the word, are the two parts of the definition. Assumes nothing.
 use borrow.Author.Needs.{needs}
 use borrow.Author.Tests.{lt-ltb, le-ltb}
-use Rattle.tables.specs.Tables.{inUse}
+use Rattle.tables.specs.Columns.{inUse}
 use Rattle.tables.proofs.places.in_use.Statement.{statement}
 use Rattle.tables.proofs.places.in_use.Tie as tie
 

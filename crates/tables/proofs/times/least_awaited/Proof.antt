@@ -1,100 +1,81 @@
--- The outer loop goes over the present items and the inner one over the connections. After each turn of either, what the rest of it still finds is
--- what the whole finds: a connection once found to await the item settles it, and an item that could not lower the least needs none asked. Assumes
--- nothing.
-use mathlib.Core.Path.{_≡_, refl, sym, _∙_}
+-- After each turn the rest of the loop, from the least so far, still finds what the whole finds: no timestamp of a connection whose mark is not below
+-- the least could lower it. Assumes nothing.
+use mathlib.Core.Path.{_≡_, ap, _∙_}
+use Prim.Native.Nat.{ℕ, min, _≤_}
 use native.Mathlib.Omega.{arith}
-use lib.ListN.{getD}
+use denote.Ref.{now}
 use borrow.Author.Needs.{needs}
 use Rattle.words.specs.Places.{each}
 use Rattle.words.specs.Words.{has, lowest, count}
 use Rattle.words.proofs.Walk.{each-turn, each-done, each-falls}
-use Rattle.rows.specs.Numbers.{noItem}
-use Rattle.tables.specs.Tables.{table, connectionPlaces, itemPlaces}
-use Rattle.tables.proofs.Least.{awaitStep, leastStep, await-turn, asked-turn, asked-fewer, least-awaited-is}
+use Rattle.rows.specs.Numbers.{never}
+use Rattle.rows.specs.declared.Connection.{Connection}
+use Rattle.tables.specs.Columns.{at, channelPlaces, connectionIn, connectionPlaces}
+use Rattle.tables.specs.Times.{leastAwaited, pendingTime}
+use Rattle.tables.proofs.Connections.{connection-is}
+use Rattle.tables.proofs.Least.{lowered, pending-turn, smallest-from}
 use Rattle.tables.proofs.times.least_awaited.Statement.{statement}
 use Rattle.tables.proofs.times.least_awaited.Tie as tie
 
-abbrev Inv-loop2 : tie.InvT-loop2
-Inv-loop2 attached present time connections items least rest p item awaited₀ left₀ k₀ awaited left k =
-    (k ≡ lowest left) × (each connectionPlaces (has left) (awaitStep (table attached connections) item p) awaited ≡ each connectionPlaces (has left₀) (awaitStep (table attached connections) item p) awaited₀)
-
-abbrev μ-loop2 : tie.MeasureT-loop2
-μ-loop2 attached present time connections items least rest p item awaited₀ left₀ k₀ awaited left k = count left
-
 abbrev Inv-loop : tie.InvT-loop
-Inv-loop attached present time connections items least₀ rest₀ p₀ least rest p =
-    (p ≡ lowest rest) × (each itemPlaces (has rest) (leastStep (table attached connections) (table present items)) least ≡ each itemPlaces (has rest₀) (leastStep (table attached connections) (table present items)) least₀)
+Inv-loop inputs time leads held marks opened consumed timestamps least₀ rest₀ k₀ least rest k =
+    (k ≡ lowest rest)
+    × (each connectionPlaces (has rest) (lowered (λ i. pendingTime timestamps (connectionIn leads held marks opened consumed i))) least
+    ≡ min time (leastAwaited inputs (connectionIn leads held marks opened consumed) timestamps))
+    × (least ≤ never)
 
 abbrev μ-loop : tie.MeasureT-loop
-μ-loop attached present time connections items least₀ rest₀ p₀ least rest p = count rest
+μ-loop inputs time leads held marks opened consumed timestamps least₀ rest₀ k₀ least rest k = count rest
 
-loop-holds : tie.Need-loop-holds Inv-loop2 μ-loop2 Inv-loop μ-loop
-loop-holds c = (c .lowest .ensures, refl)
+loop-holds : tie.Need-loop-holds Inv-loop μ-loop
+unfolding leastAwaited
+loop-holds c = (c .lowest .ensures, smallest-from connectionPlaces _ _ (c .before .args .time) (omega arith), omega arith)
 
-loop2-holds : tie.Need-loop2-holds Inv-loop2 μ-loop2 Inv-loop μ-loop
-loop2-holds c = (c .lowest2 .ensures, refl)
-
-loop2-less : tie.Need-loop2-less Inv-loop2 μ-loop2 Inv-loop μ-loop
-loop2-less c =
-    let turn = c .before .before .before .before .before .before in
-    asked-fewer (c .before .before .before .true-if .result) _ (c .before .still-asked .ensures) (each-falls _ (omega arith) (turn .before .loop2 .inv .0) (c .before .before .without .ensures))
-
-loop2-again : tie.Need-loop2-again Inv-loop2 μ-loop2 Inv-loop μ-loop
-loop2-again c =
-    let turn = c .before .before .before .before .before .before in
-    let here = turn .before .loop2 in
-    let outer = turn .before .before .before .before .before .before in
-    let args = outer .before .before .args in
-    let p = outer .loop .p in
-    let step = c .before .before .before .true-if .ensures in
-    (c .lowest3 .ensures, asked-turn (table (args .attached) (args .t1)) (getD (args .t3) p noItem) p (here .left) (here .awaited) (turn .loop2-test .taken) (here .inv .0) (c .before .before .before .before .awaits .ensures) step (c .before .before .without .ensures) (c .before .still-asked .ensures) (here .inv .1))
-
-loop-less : tie.Need-loop-less Inv-loop2 μ-loop2 Inv-loop μ-loop
+loop-less : tie.Need-loop-less Inv-loop μ-loop
 loop-less c =
-    let turn = c .before .before .before .before .before .before .before .before in
-    each-falls _ (turn .loop-test .taken) (turn .before .loop .inv .0) (c .before .without2 .ensures)
+    let turn = c .before .before .before .before .before .before .before .before .before in
+    each-falls _ (omega arith) (turn .before .loop .inv .0) (c .before .without .ensures)
 
-loop-again : tie.Need-loop-again Inv-loop2 μ-loop2 Inv-loop μ-loop
+loop-again : tie.Need-loop-again Inv-loop μ-loop
 loop-again c =
-    let turn = c .before .before .before .before .before .before .before .before in
+    let found = c .before .before in
+    let asked = found .before in
+    let opened = asked .before .before in
+    let marked = opened .before in
+    let led = marked .before .before in
+    let turn = led .before in
     let here = turn .before .loop in
-    let inner = c .before .before .before .before .loop2 in
-    let awaited = each-done connectionPlaces _ (inner .left) (c .before .before .before .loop2-test .left) (inner .inv .0) (inner .inv .1) in
-    let args = c .before .before .before .before .before .before .before .before .before .before .before .args in
-    let step = await-turn (table (args .attached) (args .t1)) (getD (args .t3) (here .p) noItem) (here .p) (here .least) (c .before .before .before .before .before .before .worth-looking .ensures) awaited (c .before .before .least-if .ensures) in
-    (c .lowest4 .ensures, each-turn itemPlaces _ (here .rest) (here .least) (omega arith) (turn .loop-test .taken) (here .inv .0) step (c .before .without2 .ensures) (here .inv .1))
+    let args = turn .before .before .before .args in
+    let timestamps = now (args .timestamps) in
+    let row : ℕ → Connection = connectionIn (now (args .leads)) (now (args .held)) (now (args .marks)) (now (args .opened)) (now (args .consumed)) in
+    let items = marked .before .held-at .ensures ∙ ap (at channelPlaces (now (args .held))) (led .number-at .ensures) in
+    let step : found .least-from .result ≡ lowered (λ i. pendingTime timestamps (row i)) (here .k) (here .least) =
+    pending-turn timestamps _ (here .least) (here .inv .2) (asked .awaited-places .ensures) (found .least-from .ensures)
+    ∙ ap (λ (connection : Connection). min (pendingTime timestamps connection) (here .least))
+    (connection-is (row (here .k)) items (marked .number-at2 .ensures) (opened .word-at .ensures) (asked .before .word-at2 .ensures)) in
+    let rest =
+    each-turn connectionPlaces _ (here .rest) (here .least) (omega arith) (turn .loop-test .taken) (here .inv .0) step (c .before .without .ensures) (here .inv .1) in
+    (c .lowest2 .ensures, rest, omega (arith, step, here .inv .2))
 
-returns : tie.Need-returns Inv-loop2 μ-loop2 Inv-loop μ-loop
+returns : tie.Need-returns Inv-loop μ-loop
 returns c =
     let here = c .before .loop in
-    each-done itemPlaces _ (here .rest) (c .loop-test .left) (here .inv .0) (here .inv .1) ∙ sym (least-awaited-is _ _ _ (omega arith))
+    each-done connectionPlaces _ (here .rest) (c .loop-test .left) (here .inv .0) (here .inv .1)
 
 pub least-awaited-spec : {M : Type 1} → statement M
 least-awaited-spec =
     tie.close
     (tie.spec
-    Inv-loop2
-    μ-loop2
     Inv-loop
     μ-loop
     (λ c κs. search needs)
     loop-holds
-    (λ c. search needs)
-    (λ c. search needs)
-    (λ c. search needs)
-    (λ c κs. search needs)
-    (λ c κs. search needs)
-    loop2-holds
-    (λ c. search needs)
-    (λ c. search needs)
-    (λ c. search needs)
     (λ c κs. search needs)
     (λ c κs. search needs)
     (λ c κs. search needs)
     (λ c κs. search needs)
     (λ c κs. search needs)
-    loop2-less
-    loop2-again
+    (λ c κs. search needs)
     (λ c κs. search needs)
     (λ c κs. search needs)
     (λ c κs. search needs)
