@@ -8,6 +8,7 @@ ghost use Rattle.session.specs.Stream.{lineKept, printedFor, readerAfter
 use calls::Call;
 use calls::Deed;
 use desk::Desk;
+use desk::Next;
 use lines::LONGEST_LINE;
 use lines::Line;
 use rows::Answer;
@@ -71,7 +72,18 @@ pub fn feed(reader: Reader, part: &[u8], out: &mut [u8]) -> Fed
         × (now (out .exit) ≡ text ++ drop (length text) (now (out .entry)))
         ) ⌝ }
 {
-    let mut desk = reader.desk;
+    let unreadable = Answer {
+        code: UNREADABLE,
+        value: 0,
+        time: 0,
+    };
+    let desk = reader.desk;
+    // The answer to the last line and the desk after it. A call is assigned to it where it is made, which copies no desk: a function that made
+    // the calls would hand the desk back by two copies.
+    let mut next = Next {
+        answer: unreadable,
+        desk,
+    };
     let mut line = reader.line;
     let mut held = reader.held;
     let mut at = 0;
@@ -91,81 +103,41 @@ pub fn feed(reader: Reader, part: &[u8], out: &mut [u8]) -> Fed
             i += 1;
             let mut slice = [0u64; MOST_TICKETS];
             let said = lines::read(&line[..kept(held)]);
-            let mut answer = Answer {
-                code: UNREADABLE,
-                value: 0,
-                time: 0,
-            };
             let mut count = 0;
-            // The call is made here and not by a function: the desk that a function hands back would be copied.
+            let desk = next.desk;
             match said {
                 Line::Makes(call) => match call {
                     Call::By(thread, deed) => match deed {
-                        Deed::Channel => {
-                            let next = desk.channel(thread);
-                            desk = next.desk;
-                            answer = next.answer;
-                        }
-                        Deed::NewThread(time) => {
-                            let next = desk.new_thread(thread, time);
-                            desk = next.desk;
-                            answer = next.answer;
-                        }
-                        Deed::AttachInput(channel) => {
-                            let next = desk.attach_input(thread, channel);
-                            desk = next.desk;
-                            answer = next.answer;
-                        }
-                        Deed::AttachOutput(channel) => {
-                            let next = desk.attach_output(thread, channel);
-                            desk = next.desk;
-                            answer = next.answer;
-                        }
-                        Deed::Detach(connection) => {
-                            let next = desk.detach(thread, connection);
-                            desk = next.desk;
-                            answer = next.answer;
-                        }
-                        Deed::End => {
-                            let next = desk.end(thread);
-                            desk = next.desk;
-                            answer = next.answer;
-                        }
-                        Deed::Set(time) => {
-                            let next = desk.set(thread, time);
-                            desk = next.desk;
-                            answer = next.answer;
-                        }
+                        Deed::Channel => next = desk.channel(thread),
+                        Deed::NewThread(time) => next = desk.new_thread(thread, time),
+                        Deed::AttachInput(channel) => next = desk.attach_input(thread, channel),
+                        Deed::AttachOutput(channel) => next = desk.attach_output(thread, channel),
+                        Deed::Detach(connection) => next = desk.detach(thread, connection),
+                        Deed::End => next = desk.end(thread),
+                        Deed::Set(time) => next = desk.set(thread, time),
                         Deed::Put(connection, timestamp, ticket) => {
-                            let next = desk.put(thread, connection, timestamp, ticket);
-                            desk = next.desk;
-                            answer = next.answer;
+                            next = desk.put(thread, connection, timestamp, ticket);
                         }
-                        Deed::Get(connection, which) => {
-                            let next = desk.get(thread, connection, which);
-                            desk = next.desk;
-                            answer = next.answer;
-                        }
+                        Deed::Get(connection, which) => next = desk.get(thread, connection, which),
                         Deed::Consume(connection, timestamp) => {
-                            let next = desk.consume(thread, connection, timestamp);
-                            desk = next.desk;
-                            answer = next.answer;
+                            next = desk.consume(thread, connection, timestamp);
                         }
                         Deed::ConsumeUntil(connection, timestamp) => {
-                            let next = desk.consume_until(thread, connection, timestamp);
-                            desk = next.desk;
-                            answer = next.answer;
+                            next = desk.consume_until(thread, connection, timestamp);
                         }
                     },
                     Call::Sweep(bound) => {
-                        let next = desk.sweep(bound, &mut slice);
-                        desk = next.desk;
-                        answer = next.answer;
+                        next = desk.sweep(bound, &mut slice);
+                        let answer = next.answer;
                         count = swept_count(answer) as usize;
                     }
                 },
-                Line::Unreadable => {}
+                Line::Unreadable => next = Next {
+                    answer: unreadable,
+                    desk,
+                },
             }
+            let answer = next.answer;
             at = text::write_answer(
                 out,
                 at,
@@ -178,6 +150,7 @@ pub fn feed(reader: Reader, part: &[u8], out: &mut [u8]) -> Fed
             held = 0;
         }
     }
+    let desk = next.desk;
     Fed {
         reader: Reader { desk, line, held },
         used: i,

@@ -1,6 +1,6 @@
 -- After some bytes of the part, the reader, the bytes used and the text in out are those that the definitions say (`Fed`), and a byte more keeps
 -- this: it joins the line, or ends it, is answered and leaves the text behind the answer. Assumes nothing.
-use mathlib.Core.Logic.{inl, inr}
+use mathlib.Core.Logic.{⊎-elim}
 use mathlib.Core.Path.{_≡_, refl, sym, _∙_}
 use Prim.Native.Nat.{_+_, _≤_, _-_}
 use native.Mathlib.Omega.{arith}
@@ -16,10 +16,11 @@ use Rattle.session.proofs.feed.Statement.{statement}
 use Rattle.session.proofs.feed.Tie as tie
 
 abbrev Inv-loop : tie.InvT-loop
-Inv-loop part out₀ desk₀ line₀ held₀ at₀ i₀ out desk line held at i = Fed (reader desk₀ line₀ held₀) part out₀ (reader desk line held) i at out × (length line ≡ lineKept)
+Inv-loop part out₀ unreadable next₀ line₀ held₀ at₀ i₀ out next line held at i =
+    Fed (reader (next₀ .desk) line₀ held₀) part out₀ (reader (next .desk) line held) i at out × (length line ≡ lineKept)
 
 abbrev μ-loop : tie.MeasureT-loop
-μ-loop part out₀ desk₀ line₀ held₀ at₀ i₀ out desk line held at i = length part - i
+μ-loop part out₀ unreadable next₀ line₀ held₀ at₀ i₀ out next line held at i = length part - i
 
 loop-holds : tie.Need-loop-holds Inv-loop μ-loop
 loop-holds c = (fed-none _ _ _, search needs)
@@ -47,61 +48,57 @@ sub-if3 c =
 slice-aggregate-read : tie.Need-slice-aggregate-read Inv-loop μ-loop
 slice-aggregate-read c = sym (length-take-le _ _ (omega arith))
 
+-- where the arms meet, each has left what is the line's turn
 ran : (c : tie.At-match-came Inv-loop μ-loop)
-    → Ran (c .before .before .before .before .before .before .before .before .loop .desk) (c .before .read .result) (c .match .answer) (c .match .count) (c .match .slice) (c .match .desk)
+    → Ran (c .before .before .before .before .before .before .before .before .before .loop .next .desk)
+    (c .before .before .read .result) (c .match .next) (c .match .slice) (c .match .count)
 ran c =
-    elim (c .match .came) [
-      | inl w ↦ deed-ran (w .1 .given .1) (w .4 .given .1) (w .7 .given .1) (w .8 .ensures) (w .11) (w .12) (w .13) (w .14)
-      | inr (inl w) ↦ deed-ran (w .1 .given .1) (w .4 .given .1) (w .7 .given .1) (w .9 .ensures) (w .12) (w .13) (w .14) (w .15)
-      | inr (inr (inl w)) ↦ deed-ran (w .1 .given .1) (w .4 .given .1) (w .7 .given .1) (w .9 .ensures) (w .12) (w .13) (w .14) (w .15)
-      | inr (inr (inr (inl w))) ↦ deed-ran (w .1 .given .1) (w .4 .given .1) (w .7 .given .1) (w .9 .ensures) (w .12) (w .13) (w .14) (w .15)
-      | inr (inr (inr (inr (inl w)))) ↦ deed-ran (w .1 .given .1) (w .4 .given .1) (w .7 .given .1) (w .9 .ensures) (w .12) (w .13) (w .14) (w .15)
-      | inr (inr (inr (inr (inr (inl w))))) ↦ deed-ran (w .1 .given .1) (w .4 .given .1) (w .7 .given .1) (w .8 .ensures) (w .11) (w .12) (w .13) (w .14)
-      | inr (inr (inr (inr (inr (inr (inl w)))))) ↦ deed-ran (w .1 .given .1) (w .4 .given .1) (w .7 .given .1) (w .9 .ensures) (w .12) (w .13) (w .14) (w .15)
-      | inr (inr (inr (inr (inr (inr (inr (inl w))))))) ↦ deed-ran (w .1 .given .1) (w .4 .given .1) (w .7 .given .1) (w .9 .ensures) (w .12) (w .13) (w .14) (w .15)
-      | inr (inr (inr (inr (inr (inr (inr (inr (inl w)))))))) ↦ deed-ran (w .1 .given .1) (w .4 .given .1) (w .7 .given .1) (w .9 .ensures) (w .12) (w .13) (w .14) (w .15)
-      | inr (inr (inr (inr (inr (inr (inr (inr (inr (inl w))))))))) ↦ deed-ran (w .1 .given .1) (w .4 .given .1) (w .7 .given .1) (w .9 .ensures) (w .12) (w .13) (w .14) (w .15)
-      | inr (inr (inr (inr (inr (inr (inr (inr (inr (inr (inl w)))))))))) ↦ deed-ran (w .1 .given .1) (w .4 .given .1) (w .7 .given .1) (w .9 .ensures) (w .12) (w .13) (w .14) (w .15)
-      | inr (inr (inr (inr (inr (inr (inr (inr (inr (inr (inr (inl w))))))))))) ↦ sweep-ran (w .1 .given .1) (w .4 .given .1) (w .7 .ensures) (w .7 .kept .1 .1 .0) (w .12) (w .13) (w .14) (w .15 ∙ w .11 .ensures)
-      | inr (inr (inr (inr (inr (inr (inr (inr (inr (inr (inr (inr w))))))))))) ↦ unreadable-ran (w .1 .given .1) (w .2) (w .3) (w .4) (w .5)
-    ]
+    ⊎-elim (λ w. deed-ran (w .1 .given .1) (w .4 .given .1) (w .7 .given .1) (w .9 ∙ w .8 .ensures) (w .10) (w .11))
+    (⊎-elim (λ w. deed-ran (w .1 .given .1) (w .4 .given .1) (w .7 .given .1) (w .10 ∙ w .9 .ensures) (w .11) (w .12))
+    (⊎-elim (λ w. deed-ran (w .1 .given .1) (w .4 .given .1) (w .7 .given .1) (w .10 ∙ w .9 .ensures) (w .11) (w .12))
+    (⊎-elim (λ w. deed-ran (w .1 .given .1) (w .4 .given .1) (w .7 .given .1) (w .10 ∙ w .9 .ensures) (w .11) (w .12))
+    (⊎-elim (λ w. deed-ran (w .1 .given .1) (w .4 .given .1) (w .7 .given .1) (w .10 ∙ w .9 .ensures) (w .11) (w .12))
+    (⊎-elim (λ w. deed-ran (w .1 .given .1) (w .4 .given .1) (w .7 .given .1) (w .9 ∙ w .8 .ensures) (w .10) (w .11))
+    (⊎-elim (λ w. deed-ran (w .1 .given .1) (w .4 .given .1) (w .7 .given .1) (w .10 ∙ w .9 .ensures) (w .11) (w .12))
+    (⊎-elim (λ w. deed-ran (w .1 .given .1) (w .4 .given .1) (w .7 .given .1) (w .10 ∙ w .9 .ensures) (w .11) (w .12))
+    (⊎-elim (λ w. deed-ran (w .1 .given .1) (w .4 .given .1) (w .7 .given .1) (w .10 ∙ w .9 .ensures) (w .11) (w .12))
+    (⊎-elim (λ w. deed-ran (w .1 .given .1) (w .4 .given .1) (w .7 .given .1) (w .10 ∙ w .9 .ensures) (w .11) (w .12))
+    (⊎-elim (λ w. deed-ran (w .1 .given .1) (w .4 .given .1) (w .7 .given .1) (w .10 ∙ w .9 .ensures) (w .11) (w .12))
+    (⊎-elim (λ w. sweep-ran (w .1 .given .1) (w .4 .given .1) (w .7 .ensures) (w .7 .kept .1 .1 .0) (w .11) (w .12) (w .13 ∙ w .10 .ensures))
+    (λ w. unreadable-ran (w .1 .given .1) (w .2) (w .3) (w .4)))))))))))))
+    (c .match .came)
 
 slice-aggregate-write-answer : tie.Need-slice-aggregate-write-answer Inv-loop μ-loop
-slice-aggregate-write-answer c = sym (ran (c .before .before) .long)
+slice-aggregate-write-answer c = sym (ran (c .before .before .before) .long)
 
 loop-again-3 : tie.Need-loop-again-3 Inv-loop μ-loop
 loop-again-3 c =
     let wrote = c .before .before in
-    let met = wrote .before .before .before in
-    let reading = met .before in
+    let met = wrote .before .before .before .before in
+    let reading = met .before .before in
     let lent = reading .before .before in
     let roomy = lent .before in
     let entered = roomy .before .before .before in
     let looped = entered .before .loop in
     let fits : looped .at + answerRoom ≤ length (looped .out) = omega (arith, roomy .if3 .left) in
     let line = kept-line (looped .line) (looped .held) _ (lent .kept .ensures) (looped .inv .1) in
-    let turned = turn-written _ _ _ _ _ _ _ _ _ _ _ (reading .read .ensures) (ran met) fits (wrote .write-answer .ensures) in (
+    let turned = turn-written _ _ _ _ _ _ _ _ _ _ (reading .read .ensures) (ran met) fits (wrote .write-answer .ensures) in (
       fed-ends _ _ _ _ _ _ _ (looped .inv .0) _ (entered .loop-test .taken) refl _ _ _ _ line
           (eq-eqb _ _ (roomy .before .if1 .left)) fits (wrote .write-answer .kept .0) turned,
       looped .inv .1,
     )
 
 same-length : tie.Need-same-length Inv-loop μ-loop
-same-length c = fed-length _ _ _ _ _ _ _ (c .before .loop .inv .0)
+same-length c = fed-length _ _ _ _ _ _ _ (c .before .before .loop .inv .0)
 
 returns : tie.Need-returns Inv-loop μ-loop
 returns c =
-    let fed = c .before .loop .inv .0 in
-    fed-promised _ _ _ _ _ _ _ fed (fed-all _ _ _ _ _ _ _ fed (omega arith))
-
-same-length-2 : tie.Need-same-length-2 Inv-loop μ-loop
-same-length-2 c = fed-length _ _ _ _ _ _ _ (c .before .before .before .before .loop .inv .0)
-
-returns-2 : tie.Need-returns-2 Inv-loop μ-loop
-returns-2 c =
-    let entered = c .before .before .before in
-    let fed = entered .before .loop .inv .0 in
-    fed-promised _ _ _ _ _ _ _ fed (fed-waits _ _ _ _ _ _ _ fed _ (entered .loop-test .taken) refl (eq-eqb _ _ (c .before .if1 .left)) (c .if3 .taken))
+    let fed = c .before .before .loop .inv .0 in
+    fed-promised _ _ _ _ _ _ _ fed
+    (⊎-elim
+    (λ w. fed-all _ _ _ _ _ _ _ fed (w .left))
+    (λ w. fed-waits _ _ _ _ _ _ _ fed _ (w .0 .taken) refl (eq-eqb _ _ (w .2 .left)) (w .3 .taken))
+    (c .before .loop-test .came))
 
 pub feed-spec : {M : Type 1} → statement M
 feed-spec =
@@ -158,6 +155,4 @@ feed-spec =
     (λ c. omega arith)
     loop-again-3
     same-length
-    returns
-    same-length-2
-    returns-2)
+    returns)
