@@ -127,7 +127,7 @@ slice-long d bound slice = needs (leb (count (leaving d bound)) (length slice)) 
 unfoldable pub adopted : Desk → ℕ → Desk
 adopted d time = withThreads d (with (d .living) (freeThread d)) (set (d .times) (freeThread d) time)
 
--- a new connection of the thread to the channel, an input with this mark or an output; a connection that is new has seen nothing
+-- a new connection of the thread to the channel, an input with this mark or an output. Its facts stay as its place had them: none, as the place was free.
 unfoldable pub attachedTo : Desk → (reads : Bool) (thread channel mark : ℕ) → Desk
 attachedTo d reads thread channel mark =
     withConnections d
