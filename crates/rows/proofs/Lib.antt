@@ -1,4 +1,4 @@
--- The laws of one row, for the crates above.
+-- The laws of one connection, of what a search takes and of answers, for the crates above.
 pub mod Laws
 pub mod Checks
 pub mod Seen
