@@ -1,9 +1,26 @@
-/* The desk for hosts in C (from C99) and C++: its layout, and the calls of the proved library.
+/* The desk for hosts in C (from C99) and C++ (from C++11): its layout, and the calls of the proved library, for x86-64 Linux.
  *
- * The host keeps one desk for the whole day and lends it to each call. No call trusts its caller: any number may be
- * passed, and what the rules forbid is refused by its code and changes neither the desk nor a lent slice. A refusal
- * answers value 0 and time 0, except DESK_SLICE_TOO_SHORT, whose value is the number of items to hand back.
- * docs/BOUNDARY.md says what crosses, who owns the memory, and what is proved. */
+ * The host keeps one desk for the whole day, begun by desk_fresh, and lends it to each call.
+ *
+ * What is refused. Any number may be passed: no call trusts its caller. What the rules forbid is refused by its code
+ * and changes neither the desk nor a lent slice. A refusal answers value 0 and time 0, except DESK_SLICE_TOO_SHORT,
+ * whose value is the number of items to hand back. Any bytes may lie in a desk, too: one that other means than these
+ * calls have written into gets answers that make no sense, and does no harm.
+ *
+ * What is forbidden. C leaves pointers to the host, and no call can test them. Where one of these does not hold, what
+ * happens is undefined: the program may crash, answer anything, or go on with other memory overwritten.
+ *   - desk is never NULL: it leads to a whole Desk, which may be read and, but for a question, written.
+ *   - slice leads to length numbers (length counts numbers, not bytes), which may be read and written. It is never
+ *     NULL, but where length is 0: there it is not followed, and may be NULL (this is tested, and not proved).
+ *   - Both are aligned to 8 bytes. A variable of type Desk or uint64_t is, and so is what malloc gives; a place inside
+ *     an array of char may not be.
+ *   - The slice does not lie over the desk, not even in part: the desk's own column tickets is no place to sweep into.
+ *   - One caller at a time for each desk: while a call is made, nobody else uses its desk or its slice, not even for a
+ *     question, neither another thread of the operating system nor a signal handler. The library has no lock. Questions
+ *     alone only read, and several may be asked at once. Different desks may be used at once.
+ * A call keeps neither pointer, and needs at most 4 KiB of stack (measured, and not proved).
+ *
+ * docs/BOUNDARY.md of the desk's repository says what crosses, byte by byte, and what is proved. */
 #ifndef DESK_H
 #define DESK_H
 
@@ -36,7 +53,7 @@ enum {
     DESK_NO_CHANNEL = 2,         /* no such channel */
     DESK_NO_CONNECTION = 3,      /* no such connection, or another thread's */
     DESK_OTHER_DIRECTION = 4,    /* connection of the other direction */
-    DESK_NO_TIMESTAMP = 5,       /* never given where a timestamp is needed */
+    DESK_NO_TIMESTAMP = 5,       /* 4294967295, called never, is no timestamp */
     DESK_BELOW_VISIBLE_TIME = 6, /* time below the caller's visible time */
     DESK_ALREADY_PRESENT = 7,    /* timestamp already present in the channel */
     DESK_ITEMS_FULL = 8,         /* 64 items present */

@@ -2,6 +2,8 @@
 //! desk afterwards and the slice afterwards. Slow, and written to be compared
 //! with the desk's own calls. Words in quotation marks are document 01's.
 
+#![allow(dead_code)] // a program may want the cases without the rest
+
 use crate::desk::{Answer, Connection, Desk, Item, Thread, Which, ITEMS, NEVER};
 use crate::line::Call;
 
@@ -145,6 +147,15 @@ fn desk_after_sweep(desk: &Desk, bound: u32) -> Desk {
 
 /// The first code of the call's list in document 01 whose case is given.
 fn code(desk: &Desk, call: Call, places: usize) -> u32 {
+    let first = cases(desk, call, places)
+        .into_iter()
+        .find(|(_, given)| *given);
+    first.map_or(0, |(code, _)| code)
+}
+
+/// The codes of the call's list in document 01, in order, each with whether
+/// its case is given, whatever is given before it.
+pub fn cases(desk: &Desk, call: Call, places: usize) -> Vec<(u32, bool)> {
     let channels = desk.channels.iter().filter(|place| place.made).count();
     let attached = desk
         .connections
@@ -152,7 +163,7 @@ fn code(desk: &Desk, call: Call, places: usize) -> u32 {
         .filter(|place| place.attached)
         .count();
     let channel = |number: u32| (number as usize) < channels;
-    let cases = match call {
+    match call {
         Call::Channel(t) => vec![(1, dead(desk, t)), (9, channels == 8)],
         Call::NewThread(t, v) => {
             let table = living(desk).len() == 16;
@@ -166,9 +177,7 @@ fn code(desk: &Desk, call: Call, places: usize) -> u32 {
         Call::Set(t, v) => vec![(1, dead(desk, t)), (6, early(desk, t, v))],
         Call::WeakSweep | Call::StrongSweep => vec![(12, leaving(desk, call).len() > places)],
         _ => item_cases(desk, call),
-    };
-    let first = cases.into_iter().find(|(_, given)| *given);
-    first.map_or(0, |(code, _)| code)
+    }
 }
 
 /// The codes of the calls about items, in order, each with whether its case is given.
@@ -262,7 +271,7 @@ pub fn items(desk: &Desk) -> Vec<(u32, u32)> {
 }
 
 /// The timestamps of present items in this state (1 UNSEEN, 2 OPEN) on the connection.
-fn in_state(desk: &Desk, connection: u32, state: u64) -> Vec<u32> {
+pub fn in_state(desk: &Desk, connection: u32, state: u64) -> Vec<u32> {
     let Some(found) = desk.connections.get(connection as usize) else {
         return vec![];
     };

@@ -2,7 +2,6 @@
  * answer to each line. */
 #include "calls.h"
 
-#include <assert.h>
 #include <inttypes.h>
 #include <stdio.h>
 #include <stdlib.h>
@@ -20,6 +19,13 @@ struct line {
     uint64_t numbers[MOST_NUMBERS + 1];
 };
 
+/* A script is written by a program, and a wrong line is an error of that program. */
+static void wrong(const struct line *line, const char *why)
+{
+    fprintf(stderr, "door-c: %s: %s\n", line->text, why);
+    exit(2);
+}
+
 static bool next_line(struct line *line)
 {
     if (fgets(line->text, sizeof line->text, stdin) == NULL)
@@ -29,14 +35,15 @@ static bool next_line(struct line *line)
         *rest++ = '\0';
     for (line->count = 0; *rest != '\0' && *rest != '\n'; line->count++) {
         char *number = rest;
-        assert(line->count <= MOST_NUMBERS);
+        if (line->count > MOST_NUMBERS)
+            wrong(line, "no call takes so many numbers");
         line->numbers[line->count] = strtoull(number, &rest, 10);
-        assert(rest != number);
+        if (rest == number)
+            wrong(line, "it has something else where a number belongs");
     }
     return true;
 }
 
-/* A script is written by a program: a line with fewer or more numbers than its call takes is an error of that program. */
 static void needs_numbers(const struct line *line, size_t count)
 {
     if (line->count == count)
@@ -70,7 +77,8 @@ static void sweep(Desk *desk, size_t call, const struct line *line, bool into)
 {
     uint64_t places[LONGEST_SLICE + 1];
     size_t length = into ? (size_t)line->numbers[calls[call].numbers] : DESK_ITEMS;
-    assert(length <= LONGEST_SLICE);
+    if (length > LONGEST_SLICE)
+        wrong(line, "the slice is longer than the longest of a script");
     for (size_t place = 0; place <= length; place++)
         places[place] = UNTOUCHED + place;
     DeskAnswer answer = perform(call, desk, line->numbers, places, length);
@@ -101,6 +109,17 @@ static void print_bytes(const Desk *desk)
         printf("%02x", bytes[each]);
 }
 
+/* Whether the whole script was read and every answer written. */
+static bool finish(void)
+{
+    if (ferror(stdin))
+        fprintf(stderr, "door-c: the script could not be read to its end\n");
+    bool written = fflush(stdout) == 0 && !ferror(stdout);
+    if (!written)
+        fprintf(stderr, "door-c: the answers could not be written\n");
+    return written && !ferror(stdin);
+}
+
 int main(void)
 {
     Desk desks[DESKS];
@@ -111,7 +130,8 @@ int main(void)
     while (next_line(&line)) {
         if (strcmp(line.text, "desk") == 0) {
             needs_numbers(&line, 1);
-            assert(line.numbers[0] < DESKS);
+            if (line.numbers[0] >= DESKS)
+                wrong(&line, "there is no such desk");
             desk = &desks[line.numbers[0]];
             printf("0 0 0");
         } else if (strcmp(line.text, "fresh") == 0) {
@@ -126,5 +146,5 @@ int main(void)
         }
         putchar('\n');
     }
-    return fflush(stdout) == 0 ? 0 : 1;
+    return finish() ? 0 : 1;
 }

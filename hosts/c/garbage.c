@@ -1,8 +1,8 @@
 /* Lends desks of garbage to every call and question: garbage-c SEED ROUNDS.
  *
  * A host may have corrupted its desk. Whatever its bytes are, each call must come back, touch nothing but the desk and
- * the slice, and change neither when it refuses. Desk and slice each stand at an end of a page of their own between two
- * pages that may not be touched at all. */
+ * the slice, and change neither when it refuses; and a question must write nothing. Desk and slice each stand at an end
+ * of a page of their own between two pages that may not be touched at all. */
 #define _DEFAULT_SOURCE
 #include "garbage.h"
 #include "refusals.h"
@@ -12,7 +12,7 @@
 #include <stdlib.h>
 #include <sys/mman.h>
 
-enum { PAGE = 4096, CALLS_A_ROUND = 20, LONGEST_SLICE = 70 };
+enum { PAGE = 4096, CALLS_A_ROUND = 20, LONGEST_SLICE = 70, BETWEEN_READ_ONLY = 64 };
 
 /* A page, what it was before a call, and the part of it that is lent. */
 struct room {
@@ -22,14 +22,23 @@ struct room {
     size_t length;
 };
 
+static void permit(unsigned char *page, int access)
+{
+    if (mprotect(page, PAGE, access) != 0) {
+        perror("garbage: a page could not be permitted");
+        exit(2);
+    }
+}
+
 static void open_room(struct room *room)
 {
     unsigned char *pages = mmap(NULL, 3 * PAGE, PROT_NONE, MAP_PRIVATE | MAP_ANONYMOUS, -1, 0);
-    if (pages == MAP_FAILED || mprotect(pages + PAGE, PAGE, PROT_READ | PROT_WRITE) != 0) {
+    if (pages == MAP_FAILED) {
         perror("garbage: no memory");
         exit(2);
     }
     room->page = pages + PAGE;
+    permit(room->page, PROT_READ | PROT_WRITE);
 }
 
 /* Lends a part of the page, at its start or at its end. */
@@ -76,10 +85,16 @@ static const char *lend_and_call(struct room *desk, struct room *slice, const st
     lend(slice, sizeof(uint64_t) * below(LONGEST_SLICE + 1), below(2));
     memcpy(desk->before, desk->page, PAGE);
     memcpy(slice->before, slice->page, PAGE);
-    /* The pointer of an empty slice may be anything. */
+    /* The pointer of an empty slice is not followed. */
     void *lent = slice->length == 0 && below(2) ? NULL : slice->page + slice->start;
     Desk *lent_desk = (Desk *)(void *)(desk->page + desk->start);
+    /* A question only reads, so that now and then its desk may not be written. */
+    bool read_only = calls[made->call].is_question && below(BETWEEN_READ_ONLY) == 0;
+    if (read_only)
+        permit(desk->page, PROT_READ);
     *answer = perform(made->call, lent_desk, made->numbers, lent, slice->length / sizeof(uint64_t));
+    if (read_only)
+        permit(desk->page, PROT_READ | PROT_WRITE);
     return fault(made->call, *answer, desk, slice);
 }
 
@@ -93,8 +108,8 @@ static void tell(const struct made *made, DeskAnswer answer, const char *wrong)
 
 int main(int words, char **word)
 {
-    if (words != 3) {
-        fprintf(stderr, "usage: garbage-c SEED ROUNDS\n");
+    if (words != 3 || strtoul(word[2], NULL, 10) == 0) {
+        fprintf(stderr, "usage: garbage-c SEED ROUNDS, at least 1\n");
         return 2;
     }
     state = strtoull(word[1], NULL, 10);

@@ -150,5 +150,9 @@ int main(void)
     read_again(&line);
     move_on(&line);
     go_home(&line);
+    if (fflush(stdout) != 0 || ferror(stdout)) {
+        fprintf(stderr, "the story could not be written\n");
+        return 1;
+    }
     return 0;
 }

@@ -12,10 +12,10 @@ static inline const char *refusal(uint32_t code)
     case DESK_NO_CHANNEL: return "no such channel; create it first";
     case DESK_NO_CONNECTION: return "no such connection, or another thread's; attach, and use your own";
     case DESK_OTHER_DIRECTION: return "connection of the other direction; puts go through outputs, gets and consumes through inputs";
-    case DESK_NO_TIMESTAMP: return "never given where a timestamp is needed; the largest timestamp is 4294967294";
+    case DESK_NO_TIMESTAMP: return "4294967295, called never, is no timestamp; the largest timestamp is 4294967294";
     case DESK_BELOW_VISIBLE_TIME: return "time below the caller's visible time; choose a time from the visible time upwards";
     case DESK_ALREADY_PRESENT: return "timestamp already present in the channel; each timestamp once";
-    case DESK_ITEMS_FULL: return "64 items present; sweep first";
+    case DESK_ITEMS_FULL: return "64 items present; make a strong sweep; if it hands back nothing, all 64 are still needed: put no more until readers have consumed and times have risen";
     case DESK_TABLE_FULL: return "the table has no free place; end a thread or detach a connection first; channels stay";
     case DESK_NOTHING_UNSEEN: return "no UNSEEN item that fits; nothing new to get through this connection";
     case DESK_NOT_OPEN: return "item is not OPEN on the connection; get it before you consume it";

@@ -26,6 +26,11 @@ static void one_call(void)
     perform(made.call, &desk, made.numbers, slice, SLICE);
 }
 
+static void begin(void)
+{
+    desk = desk_fresh();
+}
+
 /* How many bytes of the stack are used. */
 static size_t used(void (*work)(void))
 {
@@ -44,16 +49,17 @@ static size_t used(void (*work)(void))
 
 int main(int words, char **word)
 {
-    if (words != 3) {
-        fprintf(stderr, "usage: stack-c SEED ROUNDS\n");
+    if (words != 3 || strtoul(word[2], NULL, 10) == 0) {
+        fprintf(stderr, "usage: stack-c SEED ROUNDS, at least 1\n");
         return 2;
     }
     state = strtoull(word[1], NULL, 10);
     unsigned long rounds = strtoul(word[2], NULL, 10);
     /* What the calls need of the C library is looked up at its first use, which is not to be counted. */
+    begin();
     for (made.call = 0; made.call < CALLS; made.call++)
         one_call();
-    size_t most[CALLS] = {0}, without = used(nothing);
+    size_t most[CALLS] = {0}, without = used(nothing), beginning = used(begin) - without;
     for (unsigned long round = 0; round < rounds; round++) {
         fill(&desk);
         for (int each = 0; each < CALLS_A_ROUND; each++) {
@@ -68,5 +74,6 @@ int main(int words, char **word)
         if (most[call] > most[hungriest])
             hungriest = call;
     printf("stack: a call needs at most %zu bytes (%s)\n", most[hungriest], calls[hungriest].name);
-    return most[hungriest] > MOST;
+    printf("stack: a fresh desk needs %zu bytes\n", beginning);
+    return most[hungriest] > MOST || beginning > MOST;
 }

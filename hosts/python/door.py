@@ -3,8 +3,10 @@ answer to each line. It goes through the methods of Desk, so that what they make
 
 import sys
 from array import array
+from collections.abc import Iterable
+from typing import Any
 
-from desk import Desk, Refused, Swept
+from thondrimai import Desk, Refused, Swept
 
 DESKS = 8
 
@@ -15,7 +17,7 @@ UNTOUCHED = 7_000_000_000_000_000_000
 TIMES = ("visible_time", "weak_bound", "strong_bound")
 
 
-def told(name, result):
+def told(name: str, result: Any) -> Iterable[int]:
     """The value and the time that a method's result stands for, and the tickets of a sweep."""
     if result is None:
         return [0, 0]
@@ -26,35 +28,37 @@ def told(name, result):
     return [0, result] if name in TIMES else [int(result), 0]
 
 
-def answer(desk, name, numbers):
+def answer(desk: Desk, name: str, given: list[int]) -> list[int]:
     """A sweep into a lent slice tells the whole slice, and the place after its end."""
-    places = []
+    numbers: list[Any] = [*given]
+    places = array("Q")
     if name.endswith("_into"):
-        *numbers, length = numbers
+        length = numbers.pop()
         places = array("Q", [UNTOUCHED + place for place in range(length + 1)])
         numbers.append(memoryview(places)[:length])
     try:
         return [0, *told(name, getattr(desk, name)(*numbers)), *places]
     except Refused as refusal:
-        return [refusal.code, refusal.value, 0, *places]
+        return [refusal.code, refusal.value, refusal.time, *places]
 
 
-def main():
+def main() -> None:
     desks = [Desk() for _ in range(DESKS)]
     current = 0
     for line in sys.stdin:
-        name, *numbers = line.split()
-        numbers = [int(number) for number in numbers]
-        words = [0, 0, 0]
+        name, *digits = line.split()
+        numbers = [int(number) for number in digits]
+        words: list[Any] = [0, 0, 0]
         if name == "desk":
             current = numbers[0]
         elif name == "fresh":
             desks[current] = Desk()
         elif name == "bytes":
-            words = [bytes(desks[current].raw).hex()]
+            words = [bytes(desks[current]).hex()]
         else:
             words = answer(desks[current], name, numbers)
         print(*words)
 
 
-main()
+if __name__ == "__main__":
+    main()

@@ -1,11 +1,11 @@
 """The reading line: a cutter, a sign finder, an expander, and a second reader who comes late."""
 
-from desk import NEVER, Desk, Refused
+from thondrimai import NEVER, BelowVisibleTime, Desk
 
 desk = Desk()
 
 
-def sweep():
+def sweep() -> None:
     swept = desk.strong_sweep()
     bound = "never" if swept.bound == NEVER else swept.bound
     tickets = " and ".join(str(ticket) for ticket in swept.tickets)
@@ -69,7 +69,7 @@ sweep()
 print("The expander asks for another reader for line 2:")
 try:
     desk.new_thread(expander, 2)
-except Refused as refusal:
+except BelowVisibleTime as refusal:
     print(f"  {refusal}.")
 print()
 

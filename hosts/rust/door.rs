@@ -58,7 +58,7 @@ fn perform(desk: &mut Desk, name: &str, numbers: &[u64]) -> Result<(u64, u32), R
 fn tell(answer: Result<(u64, u32), Refusal>, output: &mut String) {
     let (code, value, time) = match answer {
         Ok((value, time)) => (0, value, time),
-        Err(refusal) => (refusal.code, refusal.value, 0),
+        Err(refusal) => (refusal.code.number(), refusal.value, refusal.time),
     };
     write!(output, "{code} {value} {time}").unwrap();
 }

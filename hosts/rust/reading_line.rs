@@ -1,7 +1,6 @@
 //! The reading line: a cutter, a sign finder, an expander, and a second reader who comes late.
 
 use desk::{Desk, Refusal, NEVER};
-use std::process::ExitCode;
 
 const CUTTER: u32 = 0;
 
@@ -17,17 +16,7 @@ struct Line {
     read: u32,
 }
 
-fn main() -> ExitCode {
-    match day() {
-        Ok(()) => ExitCode::SUCCESS,
-        Err(refusal) => {
-            eprintln!("{refusal}");
-            ExitCode::FAILURE
-        }
-    }
-}
-
-fn day() -> Result<(), Refusal> {
+fn main() -> Result<(), Refusal> {
     let mut line = Line::new()?;
     line.cut()?;
     line.find_signs()?;

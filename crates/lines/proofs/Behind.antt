@@ -33,7 +33,7 @@ one-moves : (numbers : List ℕ) (value : ℕ) (rest : Option (List ℕ))
 one-moves numbers value none = refl
 one-moves numbers value (some more) = ap some (sym (append-assoc numbers (value ∷ []) more))
 
-zeros-only : (count place : ℕ) → getD {A = ℕ} (replicate count 0) place 0 ≡ 0
+pub zeros-only : (count place : ℕ) → getD {A = ℕ} (replicate count 0) place 0 ≡ 0
 zeros-only zero place = refl
 zeros-only (suc count) zero = refl
 zeros-only (suc count) (suc place) = zeros-only count place

@@ -19,7 +19,7 @@ use Rattle.lines.proofs.Numbers.{number-below}
 
 -- what holds of every row's form
 infixr 20 _&_
-data Every (Holds : Form → Type 0) : List (Char × Form) → Type 1 where
+pub data Every (Holds : Form → Type 0) : List (Char × Form) → Type 1 where
   no-more : Every Holds []
   _&_ : {row : Char × Form} {rows : List (Char × Form)} → Holds (row .1) → Every Holds rows → Every Holds (row ∷ rows)
 
@@ -27,7 +27,7 @@ either : (Holds : Form → Type 0) (own : Bool) (form other : Form) → Holds fo
 either Holds true form other holds others = holds
 either Holds false form other holds others = others
 
-every : {Holds : Form → Type 0} (rows : List (Char × Form)) (letter : ℕ) → Every Holds rows → Holds noForm → Holds (formAmong rows letter)
+pub every : {Holds : Form → Type 0} (rows : List (Char × Form)) (letter : ℕ) → Every Holds rows → Holds noForm → Holds (formAmong rows letter)
 unfolding formAmong
 every [] letter no-more unread = unread
 every {Holds} (row ∷ rows) letter (first & others) unread =

@@ -10,6 +10,7 @@ use Rattle.calls.specs.declared.Call.the-variants.{By, Sweep}
 use Rattle.calls.specs.declared.Deed.the-variants.{Channel, NewThread, AttachInput, AttachOutput, Detach, End, Set, Put, Get, Consume, ConsumeUntil}
 use Rattle.calls.specs.declared.Which.the-variants.{Earliest, Latest, Named}
 use Rattle.lines.specs.Lines.{fieldsOf, allDigits, decimal, numbersOf, formAmong, lineOf, readLine}
+use Rattle.lines.specs.Faults.{countOf, beginsWithByteOrderMark, isLetter, beginsWithLetter, allNumbers, hasRightCount, faultOfFields, faultOf}
 use Rattle.lines.specs.declared.Line.{Line}
 use Rattle.lines.specs.declared.Line.the-variants.{Makes, Unreadable}
 
@@ -92,3 +93,32 @@ spaces : Reads "c  0" Unreadable
     × Reads "c :" Unreadable
 unfolding fieldsOf allDigits decimal numbersOf formAmong lineOf readLine
 spaces = (refl, refl, refl, refl, refl, refl, refl, refl, refl, refl, refl, refl, refl, refl, refl)
+
+abbrev Told : String → ℕ → Type 0
+Told text reason = faultOf (bytes text) ≡ reason
+
+-- each reason, and in which order a line is tried for them
+reasons : Told "" 1
+    × (faultOf (bytes "c " ++ replicate 79 48) ≡ 2)
+    × (faultOf (239 ∷ 187 ∷ 191 ∷ bytes "c 0") ≡ 3)
+    × Told "p 0 1 5 500\r" 4
+    × Told "c\t0" 5
+    × Told "c 0 " 6
+    × Told "q 1" 7
+    × Told "p 0 1 5" 8
+    × Told "c -1" 9
+    × Told "c 4294967296" 10
+unfolding fieldsOf allDigits formAmong countOf beginsWithByteOrderMark isLetter beginsWithLetter allNumbers hasRightCount faultOfFields faultOf
+reasons = (refl, refl, refl, refl, refl, refl, refl, refl, refl, refl)
+
+orders : Told "c\t0\r" 4
+    × Told " " 6
+    × Told " c 0" 7
+    × Told "cc 0" 7
+    × Told "c0" 7
+    × Told "c" 8
+    × Told "w 0" 8
+    × Told "c  0" 9
+    × Told "p 0 1 5 99999999999999999999" 10
+unfolding fieldsOf allDigits formAmong countOf beginsWithByteOrderMark isLetter beginsWithLetter allNumbers hasRightCount faultOfFields faultOf
+orders = (refl, refl, refl, refl, refl, refl, refl, refl, refl)

@@ -9,6 +9,8 @@ use calls::Call;
 use calls::Deed;
 use calls::Which;
 
+pub mod faults;
+
 // What a line says: its call, or nothing that can be read.
 pub enum Line {
     Makes(Call),

@@ -11,9 +11,11 @@ use lib.ListN.{length, take, drop, getD, length-append, length-drop, drop-of-len
 use lib.Seq.{drop-cons, take-suc, take-all, take-at, drop-append-add, drop-drop}
 use Rattle.text.specs.Text.{answerRoom, newline, written}
 use Rattle.desk.specs.declared.Desk.{Desk}
+use Rattle.session.specs.declared.Notes.{Notes}
 use Rattle.session.specs.declared.Reader.{Reader}
 use Rattle.session.specs.Turns.{turn, printed}
-use Rattle.session.specs.Stream.{lineKept, reader, lineSoFar, withByte, readByte, printedBy, readerAfter, printedFor, waits, usedOf, printedAtEnd}
+use Rattle.session.specs.Notes.{noted}
+use Rattle.session.specs.Stream.{lineKept, reader, lineSoFar, withByte, readByte, printedBy, readerAfter, printedFor, waits, usedOf, printedAtEnd, notedAtEnd}
 
 -- ---- one part more, and one byte more
 
@@ -126,20 +128,22 @@ module _ (first : Reader) (part before : List ℕ) (r : Reader) (i at : ℕ) (ou
         let none-long : length (printedBy r byte) ≡ 0 = ap length none in
         rw joins at (fed-byte at out (rw other) (omega arith) (fed .room) stays)
 
-    -- a newline where the room for an answer is left ends the line: its turn is taken, and its answer stands in out
-    pub fed-ends : (line : List ℕ) (desk : Desk) (end : ℕ) (after : List ℕ)
+    -- a newline where the room for an answer is left ends the line: its turn is taken, it is noted, and its answer stands in out
+    pub fed-ends : (line : List ℕ) (desk : Desk) (notes : Notes) (end : ℕ) (after : List ℕ)
         → line ≡ lineSoFar r
         → eqb byte newline ≡ true
         → at + answerRoom ≤ length out
         → length after ≡ length out
         → (desk ≡ turn (r .desk) line .desk) × (end ≡ at + length (printed (turn (r .desk) line))) × (after ≡ written out at (printed (turn (r .desk) line)))
-        → Fed first part before (reader desk (r .line) 0) (i + 1) end after
+        → notes ≡ noted (r .notes) line
+        → Fed first part before (reader desk (r .line) 0 notes) (i + 1) end after
     unfolding readByte printedBy written
-    fed-ends line desk end after whole ended fits same turned =
+    fed-ends line desk notes end after whole ended fits same turned note =
         let told = rw whole at turned in
+        let noting = rw whole at note in
         let enough : answerRoom ≤ length before - at = omega (arith, fed-length) in
         let says : printedBy r byte ≡ printed (turn (r .desk) (lineSoFar r)) = rw ended in
-        let next : readByte r byte ≡ reader desk (r .line) 0 = rw (ended, told .0) in
+        let next : readByte r byte ≡ reader desk (r .line) 0 notes = rw (ended, told .0, noting) in
         let ends : end ≡ at + length (printedBy r byte) = rw says (told .1) in
         let wrote : after ≡ take at out ++ printedBy r byte ++ drop end out = rw (says, told .1) (told .2) in
         let long : length (take at out ++ printedBy r byte ++ drop end out) ≡ length out = sym (ap length wrote) ∙ same in
@@ -194,3 +198,11 @@ pub finished : (r : Reader) (room : ℕ)
     → printedFor r (take (usedOf r (newline ∷ []) room) (newline ∷ [])) ≡ printedAtEnd r
 unfolding usedOf printedFor printedBy printedAtEnd
 finished r room some fits = rw (le-ltb room answerRoom fits, ne-eqb (r .held) 0 some) (append-nil _)
+
+-- and leaves what the end of the input notes
+pub finished-notes : (r : Reader) (room : ℕ)
+    → (r .held ≡ 0 → ⊥)
+    → answerRoom ≤ room
+    → readerAfter r (take (usedOf r (newline ∷ []) room) (newline ∷ [])) .notes ≡ notedAtEnd r
+unfolding usedOf readerAfter readByte notedAtEnd
+finished-notes r room some fits = rw (le-ltb room answerRoom fits, ne-eqb (r .held) 0 some)

@@ -5,18 +5,22 @@ use mathlib.Core.Path.{_≡_, refl, sym, ap, _∙_}
 use Prim.Native.Nat.{ℕ, _+_, _≤_, _<_, min}
 use native.Mathlib.Numerals.{add-one}
 use native.Mathlib.Omega.{arith}
-use borrow.Author.Tests.{ltb-true, ltb-false, leb-true, leb-false, lt-leb, eq-eqb, ne-eqb}
+use borrow.Author.Tests.{lt-ltb, ltb-true, ltb-false, leb-true, leb-false, lt-leb, eq-eqb, ne-eqb}
 use lib.Dec.{eqb, leb, ltb}
 use lib.ListN.{length, set, take, length-append, length-take, length-set}
 use lib.Seq.{take-all, take-append-le, take-suc-set, append-snoc}
 use Rattle.lines.specs.declared.Line.{Line}
+use Rattle.lines.specs.declared.Line.the-variants.{Makes, Unreadable}
+use Rattle.lines.specs.Faults.{faultOf}
 use Rattle.lines.specs.Lines.{longestLine, readLine}
 use Rattle.text.specs.Text.{newline}
+use Rattle.session.specs.declared.Notes.{Notes}
 use Rattle.session.specs.declared.Reader.{Reader}
 use Rattle.session.specs.Turns.{turn, turnBy, printed}
 use Rattle.session.specs.Sessions.{linesOf, answers, sessionText}
+use Rattle.session.specs.Notes.{noted, notedBy, notesOf}
 use Rattle.session.proofs.Feeding.{reader-append, printed-append}
-use Rattle.session.specs.Stream.{lineKept, reader, lineSoFar, start, withByte, readByte, printedBy, readerAfter, printedFor, printedAtEnd, together, printedInParts, SessionInParts}
+use Rattle.session.specs.Stream.{lineKept, reader, lineSoFar, start, withByte, readByte, printedBy, readerAfter, printedFor, printedAtEnd, notedAtEnd, together, printedInParts, SessionInParts, NotesOfSession}
 
 -- ---- what is kept of a line is enough
 
@@ -29,6 +33,27 @@ read-front line = by-length (leb (length line) longestLine) refl
     by-length false e =
         let long : longestLine < length (take lineKept line) = omega (arith, leb-false (length line) longestLine e, length-take lineKept line) in
         simp (e, lt-leb (length (take lineKept line)) longestLine long)
+
+pub fault-front : (line : List ℕ) → faultOf (take lineKept line) ≡ faultOf line
+unfolding faultOf
+fault-front [] = refl
+fault-front (byte ∷ bytes) = by-length (leb (length (byte ∷ bytes)) longestLine) refl
+  where
+    by-length : (short : Bool) → leb (length (byte ∷ bytes)) longestLine ≡ short → faultOf (take lineKept (byte ∷ bytes)) ≡ faultOf (byte ∷ bytes)
+    by-length true e = ap faultOf (take-all lineKept (byte ∷ bytes) (omega (arith, leb-true (length (byte ∷ bytes)) longestLine e)))
+    by-length false e =
+        let long : longestLine < length (byte ∷ bytes) = leb-false (length (byte ∷ bytes)) longestLine e in
+        let kept : longestLine < length (take lineKept (byte ∷ bytes)) = omega (arith, long, length-take lineKept (byte ∷ bytes)) in
+        rw (lt-ltb longestLine (length (byte ∷ bytes)) long, lt-ltb longestLine (length (take lineKept (byte ∷ bytes))) kept)
+
+-- so what is noted of it is what would be noted of the whole line
+pub noted-front : (n : Notes) (line : List ℕ) → noted n (take lineKept line) ≡ noted n line
+unfolding notedBy
+noted-front n line = rw (read-front line) (by-said (readLine line))
+  where
+    by-said : (said : Line) → notedBy n said (take lineKept line) ≡ notedBy n said line
+    by-said (Makes call) = refl
+    by-said Unreadable = rw (fault-front line)
 
 -- ---- the lines of an input that begins with a line without newlines
 
@@ -109,7 +134,7 @@ module _ (r : Reader) (line : List ℕ) (byte : ℕ) (amid : Amid r line) where
 
 -- ---- the bytes that are left, from amid a line
 
-same-desk : (room : Bool) (r : Reader) (line : List ℕ) (held : ℕ) → cond room (reader (r .desk) line held) r .desk ≡ r .desk
+same-desk : (room : Bool) (r : Reader) (line : List ℕ) (held : ℕ) → cond room (reader (r .desk) line held (r .notes)) r .desk ≡ r .desk
 same-desk true r line held = refl
 same-desk false r line held = refl
 
@@ -142,6 +167,44 @@ rest-of-session (byte ∷ bytes) r line amid =
     by-byte false e rest =
         rw (rest (line ++ (byte ∷ [])) (amid-other r line byte amid e), append-snoc line byte bytes, e, same-desk)
 
+-- ---- what is noted of them
+
+amid-noted : (r : Reader) (line : List ℕ) → Amid r line → noted (r .notes) (lineSoFar r) ≡ noted (r .notes) line
+amid-noted r line amid = ap (noted (r .notes)) (amid .front) ∙ noted-front (r .notes) line
+
+same-notes : (room : Bool) (r : Reader) (line : List ℕ) (held : ℕ) → cond room (reader (r .desk) line held (r .notes)) r .notes ≡ r .notes
+same-notes true r line held = refl
+same-notes false r line held = refl
+
+notes-at-end : (r : Reader) (line : List ℕ) → Amid r line → notedAtEnd r ≡ notesOf (r .notes) (linesOf line)
+unfolding notedAtEnd notesOf linesOf
+notes-at-end r [] amid = rw (eq-eqb (r .held) 0 (amid .count))
+notes-at-end r (first ∷ line) amid =
+    let some : eqb (r .held) 0 ≡ false = ne-eqb (r .held) 0 (λ (none : r .held ≡ 0). omega (arith, amid .count)) in
+    rw (some, lines-last first line (amid .unbroken)) (amid-noted r (first ∷ line) amid)
+
+rest-of-notes : (bytes : List ℕ) (r : Reader) (line : List ℕ)
+    → Amid r line
+    → notedAtEnd (readerAfter r bytes) ≡ notesOf (r .notes) (linesOf (line ++ bytes))
+unfolding readerAfter readByte notesOf
+rest-of-notes [] r line amid = rw append-nil (notes-at-end r line amid)
+rest-of-notes (byte ∷ bytes) r line amid = by-byte (eqb byte newline) refl (rest-of-notes bytes (readByte r byte))
+  where
+    by-byte : (ended : Bool)
+        → eqb byte newline ≡ ended
+        → ((next : List ℕ)
+        → Amid (readByte r byte) next
+        → notedAtEnd (readerAfter (readByte r byte) bytes) ≡ notesOf (readByte r byte .notes) (linesOf (next ++ bytes)))
+        → notedAtEnd (readerAfter (readByte r byte) bytes) ≡ notesOf (r .notes) (linesOf (line ++ byte ∷ bytes))
+    by-byte true e rest =
+        rw (rest [] (amid-newline r line byte amid e), lines-ended line byte bytes (amid .unbroken) e, e, amid-noted r line amid)
+    by-byte false e rest =
+        rw (rest (line ++ (byte ∷ [])) (amid-other r line byte amid e), append-snoc line byte bytes, e, same-notes)
+
+pub notes-of-session : NotesOfSession
+unfolding start
+notes-of-session input = rest-of-notes input start [] at-start
+
 -- ---- the parts one after the other
 
 pub parts-together : (parts : List (List ℕ)) (r : Reader)
@@ -152,6 +215,10 @@ parts-together (part ∷ parts) r =
     ap (λ (text : List ℕ). printedFor r part ++ text) (parts-together parts (readerAfter r part))
     ∙ rw (printed-append r part (together parts), reader-append r part (together parts)) (sym (append-assoc (printedFor r part) _ _))
 
-pub session-in-parts : SessionInParts
+-- the whole input at once, and its end
+pub session-at-once : (input : List ℕ) → printedFor start input ++ printedAtEnd (readerAfter start input) ≡ sessionText input
 unfolding sessionText start
-session-in-parts parts = parts-together parts start ∙ rest-of-session (together parts) start [] at-start
+session-at-once input = rest-of-session input start [] at-start
+
+pub session-in-parts : SessionInParts
+session-in-parts parts = parts-together parts start ∙ session-at-once (together parts)

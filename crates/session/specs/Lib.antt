@@ -2,4 +2,5 @@
 pub mod Turns
 pub mod Tickets
 pub mod Sessions
+pub mod Notes
 pub mod Stream

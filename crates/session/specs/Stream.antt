@@ -10,31 +10,36 @@ use Rattle.desk.specs.declared.Desk.{Desk}
 use Rattle.desk.specs.Desk.{fresh}
 use Rattle.lines.specs.Lines.{longestLine}
 use Rattle.text.specs.Text.{answerRoom, newline}
+use Rattle.session.specs.declared.Notes.{Notes}
 use Rattle.session.specs.declared.Reader.{Reader}
 use Rattle.session.specs.Turns.{turn, printed}
-use Rattle.session.specs.Sessions.{sessionText}
+use Rattle.session.specs.Sessions.{linesOf, sessionText}
+use Rattle.session.specs.Notes.{noneYet, noted, notesOf}
 
 -- of an overlong line so many bytes are enough to know that it is overlong
 abbrev pub lineKept : ℕ
 lineKept = longestLine + 1
 
--- the desk, and the bytes that are kept of the line that has not ended yet
-abbrev pub reader : Desk → List ℕ → ℕ → Reader
-reader desk line held = record { desk = desk; line = line; held = held }
+-- the desk, the bytes that are kept of the line that has not ended yet, and what was noted of those that have
+abbrev pub reader : Desk → List ℕ → ℕ → Notes → Reader
+reader desk line held notes = record { desk = desk; line = line; held = held; notes = notes }
 
 abbrev pub lineSoFar : Reader → List ℕ
 lineSoFar r = take (r .held) (r .line)
 
 -- "starting with a fresh desk"
 unfoldable pub start : Reader
-start = reader fresh (replicate lineKept 0) 0
+start = reader fresh (replicate lineKept 0) 0 noneYet
 
 -- one byte: a newline ends the line, any other byte joins it
 abbrev pub withByte : Reader → ℕ → Reader
-withByte r byte = cond (ltb (r .held) lineKept) (reader (r .desk) (set (r .line) (r .held) byte) (r .held + 1)) r
+withByte r byte = cond (ltb (r .held) lineKept) (reader (r .desk) (set (r .line) (r .held) byte) (r .held + 1) (r .notes)) r
 
 unfoldable pub readByte : Reader → ℕ → Reader
-readByte r byte = cond (eqb byte newline) (reader (turn (r .desk) (lineSoFar r) .desk) (r .line) 0) (withByte r byte)
+readByte r byte =
+    cond (eqb byte newline)
+    (reader (turn (r .desk) (lineSoFar r) .desk) (r .line) 0 (noted (r .notes) (lineSoFar r)))
+    (withByte r byte)
 
 unfoldable pub printedBy : Reader → ℕ → List ℕ
 printedBy r byte = cond (eqb byte newline) (printed (turn (r .desk) (lineSoFar r))) []
@@ -52,11 +57,17 @@ printedFor r (byte ∷ bytes) = printedBy r byte ++ printedFor (readByte r byte)
 unfoldable pub printedAtEnd : Reader → List ℕ
 printedAtEnd r = cond (eqb (r .held) 0) [] (printed (turn (r .desk) (lineSoFar r)))
 
+unfoldable pub notedAtEnd : Reader → Notes
+notedAtEnd r = cond (eqb (r .held) 0) (r .notes) (noted (r .notes) (lineSoFar r))
+
 -- ---- one part of the input, as far as the output has room
 
--- at the end, nothing is written where the room for an answer is not left
+-- at the end, nothing is written, and nothing more is noted, where the room for an answer is not left
 abbrev pub writtenAtEnd : Reader → ℕ → List ℕ
 writtenAtEnd r room = cond (ltb room answerRoom) [] (printedAtEnd r)
+
+abbrev pub notesAtEnd : Reader → ℕ → Notes
+notesAtEnd r room = cond (ltb room answerRoom) (r .notes) (notedAtEnd r)
 
 -- how many bytes are used of a part, with this much room for the output: a newline waits where the room for an answer is not left
 abbrev pub waits : ℕ → ℕ → Bool
@@ -79,3 +90,7 @@ printedInParts r (part ∷ parts) = printedFor r part ++ printedInParts (readerA
 -- `session-in-parts`
 abbrev pub SessionInParts : Type 0
 SessionInParts = (parts : List (List ℕ)) → printedInParts start parts ≡ sessionText (together parts)
+
+-- `notes-of-session`: what is noted byte by byte is what is noted of the lines of the whole input
+abbrev pub NotesOfSession : Type 0
+NotesOfSession = (input : List ℕ) → notedAtEnd (readerAfter start input) ≡ notesOf noneYet (linesOf input)

@@ -1,10 +1,14 @@
 // A session: lines of bytes in, lines of answers out, over one desk.
+mod noting;
+
+pub use noting::counted;
+pub use noting::noted;
 ghost use mathlib.Core.Path.{_≡_};
 ghost use mathlib.Core.List.{_++_};
 ghost use Prim.Native.Nat.{min};
 ghost use lib.ListN.{drop, length, take};
 ghost use Rattle.session.specs.Tickets.{sweptCount};
-ghost use Rattle.session.specs.Stream.{lineKept, printedFor, readerAfter, start, usedOf, writtenAtEnd};
+ghost use Rattle.session.specs.Stream.{lineKept, notesAtEnd, printedFor, readerAfter, start, usedOf, writtenAtEnd};
 use calls::Call;
 use calls::Deed;
 use desk::Desk;
@@ -21,17 +25,32 @@ const UNREADABLE: u32 = 99;
 // A line with one byte more than the longest is overlong, so no more of a line is kept.
 const LINE_KEPT: usize = LONGEST_LINE + 1;
 
-// The desk, and what was read of a line that has not ended.
+// How many lines there were, how many of them were not readable, and of the first of these its number, from 1, and why it is not.
+pub struct Notes {
+    pub lines: u64,
+    pub unreadable: u64,
+    pub first: u64,
+    pub fault: u32,
+}
+
+// The desk, what was read of a line that has not ended, and what was noted of the lines that have.
 pub struct Reader {
     pub desk: Desk,
     pub line: [u8; LINE_KEPT],
     pub held: usize,
+    pub notes: Notes,
 }
 
 // What became of a part of the input: the reader after it, how many of its bytes were used, and how many bytes were written.
 pub struct Fed {
     pub reader: Reader,
     pub used: usize,
+    pub written: usize,
+}
+
+// What became of the end of the input: what was noted of all lines, and how many bytes were written.
+pub struct Finished {
+    pub notes: Notes,
     pub written: usize,
 }
 
@@ -57,6 +76,12 @@ pub fn started() -> Reader
         desk: Desk::fresh(),
         line: [0u8; LINE_KEPT],
         held: 0,
+        notes: Notes {
+            lines: 0,
+            unreadable: 0,
+            first: 0,
+            fault: 0,
+        },
     }
 }
 
@@ -86,6 +111,7 @@ pub fn feed(reader: Reader, part: &[u8], out: &mut [u8]) -> Fed
     };
     let mut line = reader.line;
     let mut held = reader.held;
+    let mut notes = reader.notes;
     let mut at = 0;
     let mut i = 0;
     while i < part.len() {
@@ -102,7 +128,9 @@ pub fn feed(reader: Reader, part: &[u8], out: &mut [u8]) -> Fed
             }
             i += 1;
             let mut slice = [0u64; MOST_TICKETS];
-            let said = lines::read(&line[..kept(held)]);
+            let kept = kept(held);
+            let said = lines::read(&line[..kept]);
+            notes = noted(notes, said, &line[..kept]);
             let mut count = 0;
             let desk = next.desk;
             match said {
@@ -152,26 +180,37 @@ pub fn feed(reader: Reader, part: &[u8], out: &mut [u8]) -> Fed
     }
     let desk = next.desk;
     Fed {
-        reader: Reader { desk, line, held },
+        reader: Reader {
+            desk,
+            line,
+            held,
+            notes,
+        },
         used: i,
         written: at,
     }
 }
 
-// The end of the input: answers a last line that lacks its newline. Where out lacks the room for an answer, nothing is written.
-pub fn finish(reader: Reader, out: &mut [u8]) -> usize
+// The end of the input: answers a last line that lacks its newline. Where out lacks the room for an answer, nothing is written and no line more is noted.
+pub fn finish(reader: Reader, out: &mut [u8]) -> Finished
     ensures { λ r. ⌜ (
         let text = writtenAtEnd reader (length (now (out .entry))) in
-        (r ≡ length text) × (now (out .exit) ≡ text ++ drop (length text) (now (out .entry)))
+        (r .notes ≡ notesAtEnd reader (length (now (out .entry))))
+        × (r .written ≡ length text)
+        × (now (out .exit) ≡ text ++ drop (length text) (now (out .entry)))
         ) ⌝ }
 {
+    let notes = reader.notes;
     if out.len() < ANSWER_ROOM {
-        return 0;
+        return Finished { notes, written: 0 };
     }
     if reader.held == 0 {
-        return 0;
+        return Finished { notes, written: 0 };
     }
     // A last line that lacks its newline is answered as if it had one.
     let fed = feed(reader, b"\n", out);
-    fed.written
+    let after = fed.reader;
+    let notes = after.notes;
+    let written = fed.written;
+    Finished { notes, written }
 }

@@ -16,11 +16,11 @@ use Rattle.session.proofs.feed.Statement.{statement}
 use Rattle.session.proofs.feed.Tie as tie
 
 abbrev Inv-loop : tie.InvT-loop
-Inv-loop part out₀ unreadable next₀ line₀ held₀ at₀ i₀ out next line held at i =
-    Fed (reader (next₀ .desk) line₀ held₀) part out₀ (reader (next .desk) line held) i at out × (length line ≡ lineKept)
+Inv-loop part out₀ unreadable next₀ line₀ held₀ notes₀ at₀ i₀ out next line held notes at i =
+    Fed (reader (next₀ .desk) line₀ held₀ notes₀) part out₀ (reader (next .desk) line held notes) i at out × (length line ≡ lineKept)
 
 abbrev μ-loop : tie.MeasureT-loop
-μ-loop part out₀ unreadable next₀ line₀ held₀ at₀ i₀ out next line held at i = length part - i
+μ-loop part out₀ unreadable next₀ line₀ held₀ notes₀ at₀ i₀ out next line held notes at i = length part - i
 
 loop-holds : tie.Need-loop-holds Inv-loop μ-loop
 loop-holds c = (fed-none _ _ _, search needs)
@@ -48,10 +48,13 @@ sub-if3 c =
 slice-aggregate-read : tie.Need-slice-aggregate-read Inv-loop μ-loop
 slice-aggregate-read c = sym (length-take-le _ _ (omega arith))
 
+slice-aggregate-noted : tie.Need-slice-aggregate-noted Inv-loop μ-loop
+slice-aggregate-noted c = sym (length-take-le _ _ (omega arith))
+
 -- where the arms meet, each has left what is the line's turn
 ran : (c : tie.At-match-came Inv-loop μ-loop)
-    → Ran (c .before .before .before .before .before .before .before .before .before .loop .next .desk)
-    (c .before .before .read .result) (c .match .next) (c .match .slice) (c .match .count)
+    → Ran (c .before .before .before .before .before .before .before .before .before .before .before .loop .next .desk)
+    (c .before .before .before .before .read .result) (c .match .next) (c .match .slice) (c .match .count)
 ran c =
     ⊎-elim (λ w. deed-ran (w .1 .given .1) (w .4 .given .1) (w .7 .given .1) (w .9 ∙ w .8 .ensures) (w .10) (w .11))
     (⊎-elim (λ w. deed-ran (w .1 .given .1) (w .4 .given .1) (w .7 .given .1) (w .10 ∙ w .9 .ensures) (w .11) (w .12))
@@ -75,7 +78,8 @@ loop-again-3 : tie.Need-loop-again-3 Inv-loop μ-loop
 loop-again-3 c =
     let wrote = c .before .before in
     let met = wrote .before .before .before .before in
-    let reading = met .before .before in
+    let noting = met .before .before in
+    let reading = noting .before .before in
     let lent = reading .before .before in
     let roomy = lent .before in
     let entered = roomy .before .before .before in
@@ -83,8 +87,9 @@ loop-again-3 c =
     let fits : looped .at + answerRoom ≤ length (looped .out) = omega (arith, roomy .if3 .left) in
     let line = kept-line (looped .line) (looped .held) _ (lent .kept .ensures) (looped .inv .1) in
     let turned = turn-written _ _ _ _ _ _ _ _ _ _ (reading .read .ensures) (ran met) fits (wrote .write-answer .ensures) in (
-      fed-ends _ _ _ _ _ _ _ (looped .inv .0) _ (entered .loop-test .taken) refl _ _ _ _ line
-          (eq-eqb _ _ (roomy .before .if1 .left)) fits (wrote .write-answer .kept .0) turned,
+      fed-ends _ _ _ _ _ _ _ (looped .inv .0) _ (entered .loop-test .taken) refl _ _ _ _ _ line
+          (eq-eqb _ _ (roomy .before .if1 .left)) fits (wrote .write-answer .kept .0) turned
+          (rw (reading .read .ensures) at (noting .noted .ensures)),
       looped .inv .1,
     )
 
@@ -120,6 +125,9 @@ feed-spec =
     (λ c κs. search needs)
     (λ c. omega arith)
     slice-aggregate-read
+    (λ c κs. search needs)
+    (λ c. omega arith)
+    slice-aggregate-noted
     (λ c κs. search needs)
     (λ c. search needs)
     (λ c. search needs)

@@ -1,0 +1,2 @@
+-- What the session program promises of its reads and writes.
+pub mod Talk

@@ -1,0 +1,1 @@
+"""Tests of the desk for Python, run by hosts/python/checks.py."""
