@@ -1,8 +1,10 @@
 // What a program can ask of a desk, as data: the code, the rules and the lines of a session speak of the same calls.
+#![tactic(auto)]
+
 pub mod states;
 
 // What a timestamp is on an input connection.
-#[derive(Drop)]
+#[derive(Clone, Copy)]
 pub enum State {
     Absent,
     Unseen,
@@ -11,7 +13,7 @@ pub enum State {
 }
 
 // Which item a get asks for.
-#[derive(Drop)]
+#[derive(Clone, Copy)]
 pub enum Which {
     Earliest,
     Latest,
@@ -19,7 +21,7 @@ pub enum Which {
 }
 
 // What a thread can do.
-#[derive(Drop)]
+#[derive(Clone, Copy)]
 pub enum Deed {
     // a new channel
     Channel,
@@ -44,14 +46,14 @@ pub enum Deed {
 }
 
 // The bound that a sweep takes.
-#[derive(Drop)]
+#[derive(Clone, Copy)]
 pub enum Bound {
     Weak,
     Strong,
 }
 
 // A call: a thread's deed, or a sweep, which names no thread.
-#[derive(Drop)]
+#[derive(Clone, Copy)]
 pub enum Call {
     By(u32, Deed),
     Sweep(Bound),

@@ -1,4 +1,6 @@
 // The desk by value: threads, channels, connections and items as columns of numbers and words of places, and every call on them.
+#![tactic(auto)]
+
 ghost use Rattle.std.specs.Prelude.{◌≡◌};
 ghost use Rattle.desk.specs.Desk.{fresh};
 ghost use Rattle.desk.specs.Codes.{connection_code};
@@ -21,7 +23,7 @@ mod threads;
 // channel holds, timestamps and tickets. A call that changes a column takes it out of the desk once and puts it back; the columns that change
 // together stand together, as what lies between is copied along.
 #[repr(C)]
-#[derive(Drop)]
+#[derive(Clone, Copy)]
 pub struct Desk {
     pub times: Times,
     pub living: u64,
@@ -41,7 +43,7 @@ pub struct Desk {
 
 // The answer to a call, and the desk after it.
 #[repr(C)]
-#[derive(Drop)]
+#[derive(Clone, Copy)]
 pub struct Next {
     pub answer: Answer,
     pub desk: Desk,

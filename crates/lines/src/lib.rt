@@ -1,4 +1,6 @@
 // A line of a session, read as a call.
+#![tactic(auto)]
+
 ghost use Rattle.std.specs.Prelude.{◌≡◌, ◌+◌, drop, get_or};
 ghost use Rattle.lines.specs.Lines.{form_of, line_with, read_line};
 ghost use Rattle.lines.specs.Reading.{WithinLine, FirstThreeNumbers, field_at, limits_from, numbers_in};
@@ -8,18 +10,18 @@ use calls::{Bound, Call, Deed, Which};
 pub mod faults;
 
 // What a line says: its call, or nothing that can be read.
-#[derive(Drop)]
+#[derive(Clone, Copy)]
 pub enum Line {
     Makes(Call),
     Unreadable,
 }
 
 // How many numbers follow a letter, and the largest that each may be.
-#[derive(Drop)]
+#[derive(Clone, Copy)]
 struct Limits(usize, [u64; MOST_NUMBERS]);
 
 // What fills a field of a line: a number, with the place where the field ends, or something else.
-#[derive(Drop)]
+#[derive(Clone, Copy)]
 enum Field {
     Value(u64, usize),
     Other,

@@ -1,4 +1,6 @@
 // A session: lines of bytes in, lines of answers out, over one desk.
+#![tactic(auto)]
+
 mod noting;
 
 ghost use Rattle.std.specs.Prelude.{◌≡◌, ◌++◌, min, drop, length, take};
@@ -19,7 +21,7 @@ const UNREADABLE: u32 = 99;
 const LINE_KEPT: usize = LONGEST_LINE + 1;
 
 // How many lines there were, how many of them were not readable, and of the first of these its number, from 1, and why it is not.
-#[derive(Drop)]
+#[derive(Clone, Copy)]
 pub struct Notes {
     pub lines: u64,
     pub unreadable: u64,
@@ -28,7 +30,7 @@ pub struct Notes {
 }
 
 // The desk, what was read of a line that has not ended, and what was noted of the lines that have.
-#[derive(Drop)]
+#[derive(Clone, Copy)]
 pub struct Reader {
     pub desk: Desk,
     pub line: [u8; LINE_KEPT],
@@ -37,7 +39,7 @@ pub struct Reader {
 }
 
 // What became of a part of the input: the reader after it, how many of its bytes were used, and how many bytes were written.
-#[derive(Drop)]
+#[derive(Clone, Copy)]
 pub struct Fed {
     pub reader: Reader,
     pub used: usize,
@@ -45,7 +47,7 @@ pub struct Fed {
 }
 
 // What became of the end of the input: what was noted of all lines, and how many bytes were written.
-#[derive(Drop)]
+#[derive(Clone, Copy)]
 pub struct Finished {
     pub notes: Notes,
     pub written: usize,

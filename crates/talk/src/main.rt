@@ -1,5 +1,7 @@
 // The session program: standard input in parts, as they come, and the answers to each part to standard output. At a complete end it says so on
 // descriptor 3; where a read or a write has failed, it says that on standard error.
+#![tactic(auto)]
+
 mod waiting;
 
 ghost use Rattle.std.specs.Prelude.{◌≡◌, List, ℕ, ◌≤◌, length};
@@ -25,7 +27,7 @@ const TOO_MUCH: u32 = 4;
 const REPORT: i32 = 3;
 
 // The reader after a part, how many bytes of answers were taken up to its end, and whether all of its own were.
-#[derive(Drop)]
+#[derive(Clone, Copy)]
 struct Told {
     reader: Reader,
     taken: u64,
@@ -33,7 +35,7 @@ struct Told {
 }
 
 // The reader after the input that was read, how many bytes of its answers were taken, how many bytes it has, and what the session came to.
-#[derive(Drop)]
+#[derive(Clone, Copy)]
 struct Heard {
     reader: Reader,
     taken: u64,
@@ -42,7 +44,7 @@ struct Heard {
 }
 
 // What a session came to, how many bytes its input has, how many bytes of its answers were taken, and what was noted of its lines.
-#[derive(Drop)]
+#[derive(Clone, Copy)]
 struct End {
     how: u32,
     bytes: u64,

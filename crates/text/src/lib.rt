@@ -1,5 +1,7 @@
 // An answer as text: code, value, time and the tickets in decimal, one space between, and a newline.
 // `write_answer` is the one door; the other functions are its parts and lean on the room that it has made sure of.
+#![tactic(auto)]
+
 ghost use Rattle.std.specs.Prelude.{◌≡◌, cond, ◌+◌, ◌*◌, ◌≤◌, length, take};
 ghost use Rattle.text.specs.Text.{answer_text, decimal_text, field_room, field_text, fields_text, has_room, line_room, most_digits, written, Wrote};
 

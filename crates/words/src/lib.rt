@@ -1,4 +1,6 @@
 // A u64 as a set of 64 places.
+#![tactic(auto)]
+
 ghost use Rattle.std.specs.Prelude.{◌≡◌, cond};
 ghost use Rattle.words.specs.Words.{has, with, without, both, either, except, lowest, lowest_free, count};
 
