@@ -3,7 +3,6 @@ use mathlib.Core.Bool.{Bool, ◌&&◌, and-true, true}
 use mathlib.Core.List.{List}
 use mathlib.Core.Path.{◌∙◌, ◌≡◌, ap, refl}
 use Prim.Native.Nat.{zero-le, ℕ}
-use borrow.Author.Rules.{rules}
 use borrow.Author.Tests.{le-leb}
 use Rattle.words.specs.Words.{has}
 use Rattle.words.proofs.Walk.{each_ext}
@@ -12,8 +11,7 @@ use Rattle.rows.specs.Choices.{taken_before}
 use Rattle.tables.specs.Columns.{at, item_places}
 use Rattle.tables.specs.Search.{chosen, chosen_from}
 use Rattle.leaving.specs.Leaving.{first_place}
-use Rattle.leaving.proofs.handed.first_place.Statement.{statement}
-use Rattle.leaving.proofs.handed.first_place.Tie as tie
+use Rattle.leaving.proofs.handed.first_place.Goals as goal
 
 earliest : (timestamps : List ℕ) (places : ℕ) → chosen_from timestamps places 0 Earliest ≡ chosen timestamps (taken_before Earliest) (has places)
 unfolding chosen_from chosen
@@ -22,19 +20,14 @@ earliest timestamps places =
     (λ place inside. ap (λ (b : Bool). has places place && (b && true)) (le-leb 0 (at item_places timestamps place) zero-le) ∙ and-true (has places place))
     (λ place found inside. refl)
 
-returns : tie.Need-returns
+pub returns : goal.returns
 unfolding first_place
 returns c =
-    let among = c.before.before in
     simp (
       c.place.ensures,
-      c.before.choose.ensures,
-      among.both.ensures,
-      among.before.held_at.ensures,
-      among.before.before.first-channel.ensures,
+      c.choose-found.ensures,
+      c.both.ensures,
+      c.held_at-items.ensures,
+      c.first_channel.ensures,
       earliest,
     )
-
-pub first-place-spec : {M : Type 1} → statement M
-first-place-spec =
-    tie.close (tie.spec (λ c κs. search rules) (λ c κs. search rules) (λ c κs. search rules) (λ c κs. search rules) (λ c κs. search rules) returns)
