@@ -46,23 +46,23 @@ digits_within (suc places) v =
 digits_some : (places v : ℕ) → 0 < length (digits (suc places) v)
 digits_some places v = split v (λ few. omega (arith, length_few places v few)) (λ more. omega (arith, length_more places v more))
 
-digits-below : (places zeros v : ℕ) → v < 10 ^ suc zeros → length (digits places v) ≤ suc zeros
+digits-below : (places exponent v : ℕ) → v < 10 ^ suc exponent → length (digits places v) ≤ suc exponent
 unfolding digits
-digits-below zero zeros v below = omega arith
+digits-below zero exponent v below = omega arith
 digits-below (suc places) zero v below = omega (arith, length_few places v below)
-digits-below (suc places) (suc zeros) v below =
-    let tenth : v < 10 ^ suc zeros * 10 = rw pow-suc at below in
+digits-below (suc places) (suc exponent) v below =
+    let tenth : v < 10 ^ suc exponent * 10 = rw pow-suc at below in
     split v
     (λ few. omega (arith, length_few places v few))
-    (λ more. omega (arith, length_more places v more, digits-below places zeros (v / 10) (omega arith)))
+    (λ more. omega (arith, length_more places v more, digits-below places exponent (v / 10) (omega arith)))
 
-digits_above : (places zeros v : ℕ) → 10 ^ zeros ≤ v → zeros < places → zeros < length (digits places v)
-digits_above zero zeros v above fits = omega arith
+digits_above : (places exponent v : ℕ) → 10 ^ exponent ≤ v → exponent < places → exponent < length (digits places v)
+digits_above zero exponent v above fits = omega arith
 digits_above (suc places) zero v above fits = digits_some places v
-digits_above (suc places) (suc zeros) v above fits =
-    let tenth : 10 ^ zeros * 10 ≤ v = rw pow-suc at above in
-    let more : 10 ≤ v = omega (arith, one-le-pow zeros 10 (omega arith)) in
-    omega (arith, length_more places v more, digits_above places zeros (v / 10) (omega arith) (omega arith))
+digits_above (suc places) (suc exponent) v above fits =
+    let tenth : 10 ^ exponent * 10 ≤ v = rw pow-suc at above in
+    let more : 10 ≤ v = omega (arith, one-le-pow exponent 10 (omega arith)) in
+    omega (arith, length_more places v more, digits_above places exponent (v / 10) (omega arith) (omega arith))
 
 -- no number is longer than the most digits
 pub decimal-length : (v : ℕ) → length (decimal_text v) ≤ most_digits
@@ -75,19 +75,19 @@ unfolding decimal_text
 decimal_some v = digits_some 19 v
 
 -- a number below a power of ten has at most as many digits as the power has zeros
-pub decimal-below : (zeros v : ℕ) → 0 < zeros → v < 10 ^ zeros → length (decimal_text v) ≤ zeros
+pub decimal-below : (exponent v : ℕ) → 0 < exponent → v < 10 ^ exponent → length (decimal_text v) ≤ exponent
 unfolding decimal_text
 decimal-below zero v some below = omega arith
-decimal-below (suc zeros) v some below = digits-below most_digits zeros v below
+decimal-below (suc exponent) v some below = digits-below most_digits exponent v below
 
 -- any other has more digits than the power has zeros, as far as the most digits go
-pub decimal_above : (zeros v : ℕ) → zeros < most_digits → 10 ^ zeros ≤ v → zeros < length (decimal_text v)
+pub decimal_above : (exponent v : ℕ) → exponent < most_digits → 10 ^ exponent ≤ v → exponent < length (decimal_text v)
 unfolding decimal_text
-decimal_above zeros v fits above = digits_above most_digits zeros v above fits
+decimal_above exponent v fits above = digits_above most_digits exponent v above fits
 
 -- a power of ten that has less than 19 zeros takes one more in 64 bits
-pub next_power : (zeros : ℕ) → zeros < 19 → 10 ^ zeros * 10 ≤ 10000000000000000000
-next_power zeros fits = rw (← pow-suc) (pow-le-pow_right {n = 10} (omega arith) {i = suc zeros} {j = 19} fits)
+pub next_power : (exponent : ℕ) → exponent < 19 → 10 ^ exponent * 10 ≤ 10000000000000000000
+next_power exponent fits = rw (← pow-suc) (pow-le-pow_right {n = 10} (omega arith) {i = suc exponent} {j = 19} fits)
 
 -- the last `count` digits of v, leading zeros included: what is still to be written when the digits come from the last to the first
 unfoldable pub last_digits : ℕ → ℕ → List ℕ
