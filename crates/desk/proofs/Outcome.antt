@@ -2,7 +2,6 @@
 -- the code is 0, and past them where it is not, and `outcome` parts by the same. Assumes nothing.
 use mathlib.Core.Path.{◌≡◌, refl, sym, ap, ◌∙◌}
 use mathlib.Core.Bool.{Bool, true, false, cond}
-use mathlib.Core.Logic.{◌⊎◌, ⊎_elim}
 use mathlib.Core.List.{List}
 use Prim.Native.Nat.{ℕ}
 use lib.Dec.{eqb}
@@ -80,19 +79,16 @@ module _ (d : Desk) {tests : List Check} {says : Told} (next : Desk) {code : ℕ
   pub refused : (code ≡ 0 → ⊥) → ◌≡◌ {A = Next} (record { answer = answer; desk = d }) (outcome d tests says next)
   refused some = by_code (ne_eqb code 0 some)
 
-  -- through the stores where all checks hold, else past them
-  pub either_way : {last : Desk} {Through Past : Type 0}
-      → (Through → (code ≡ 0) × (last ≡ next))
-      → (Past → (code ≡ 0 → ⊥) × (last ≡ d))
-      → Through ⊎ Past
-      → ◌≡◌ {A = Next} (record { answer = answer; desk = last }) (outcome d tests says next)
-  either_way {last} through past =
-      ⊎_elim
-      (λ w. leaves (through w).1 ∙ accepted (through w).0)
-      (λ w. leaves (past w).1 ∙ refused (past w).0)
-    where
-      leaves : {x : Desk} → last ≡ x → ◌≡◌ {A = Next} (record { answer = answer; desk = last }) (record { answer = answer; desk = x })
-      leaves = ap (λ (x : Desk). record { answer = answer; desk = x })
+  leaves : {last x : Desk} → last ≡ x → ◌≡◌ {A = Next} (record { answer = answer; desk = last }) (record { answer = answer; desk = x })
+  leaves = ap (λ (x : Desk). record { answer = answer; desk = x })
+
+  -- through the stores, where all checks hold
+  pub through : {last : Desk} → code ≡ 0 → last ≡ next → ◌≡◌ {A = Next} (record { answer = answer; desk = last }) (outcome d tests says next)
+  through zero is = leaves is ∙ accepted zero
+
+  -- past them
+  pub past : {last : Desk} → (code ≡ 0 → ⊥) → last ≡ d → ◌≡◌ {A = Next} (record { answer = answer; desk = last }) (outcome d tests says next)
+  past some is = leaves is ∙ refused some
 
 -- a call that would change nothing, whether its checks hold or not
 pub unchanged : (d : Desk) {tests : List Check} {says : Told} {code : ℕ} {answer : Answer} → Answered tests says code answer

@@ -3,7 +3,6 @@
 use mathlib.Core.Path.{◌≡◌, refl, ap, ◌∙◌}
 use mathlib.Core.List.{List}
 use Prim.Native.Nat.{ℕ}
-use borrow.Author.Rules.{rules}
 use Rattle.calls.specs.Questions.{ask_state_of}
 use Rattle.calls.specs.States.{state_number}
 use Rattle.rows.specs.declared.Connection.{Connection}
@@ -15,8 +14,7 @@ use Rattle.tables.specs.Seen.{place_of, state}
 use Rattle.desk.specs.Desk.{connection_at}
 use Rattle.desk.specs.Questions.{reply, question_checks, question_told}
 use Rattle.desk.proofs.Outcome.{answered}
-use Rattle.desk.proofs.Desk.state.Statement.{statement}
-use Rattle.desk.proofs.Desk.state.Tie as tie
+use Rattle.desk.proofs.Desk.state.Goals as goal
 
 -- the state at the place that was found, of the connection that was read
 state-found : (timestamps : List ℕ) (timestamp : ℕ) {place : ℕ} {read connection : Connection}
@@ -26,46 +24,25 @@ state-found : (timestamps : List ℕ) (timestamp : ℕ) {place : ℕ} {read conn
 unfolding state
 state-found timestamps timestamp found is = rw (found, is)
 
-returns : tie.Need-returns
+pub returns : goal.returns
 unfolding reply question_checks question_told in_turn
 returns c =
-    let checked = c.before.before.before in
-    let exists = checked.before.before.before.before in
-    let found = exists.before.before in
-    let read = found.before.before in
-    let given = read.before.before.before.before.before.before.before.before.before.before.before.before.args in
+    let given = c.args in
     let question = ask_state_of given.connection given.timestamp in
     let answers =
-    c.before.number.ensures
+    c.number.ensures
     ∙ ap state_number
-    (c.before.before.ask_state_of.ensures
+    (c.state_of.ensures
     ∙ state-found given.self.timestamps given.timestamp {connection = connection_at given.self given.connection}
-    found.place-of.ensures read.connection-at.ensures) in
-    (answered (question_checks given.self question) (question_told given.self question) refl {code = checked.needs3.result}
+    c.place_of-place.ensures c.connection_at-row.ensures) in
+    (answered (question_checks given.self question) (question_told given.self question) refl {code = c.needs-code-3.result}
     (simp (
-      checked.needs3.ensures,
-      checked.before.needs2.ensures,
-      checked.before.before.in-use2.ensures,
-      checked.before.before.before.needs.ensures,
-      exists.in_use.ensures,
-      exists.before.either.ensures,
+      c.needs-code-3.ensures,
+      c.needs-code-2.ensures,
+      c.in_use-2.ensures,
+      c.needs-code.ensures,
+      c.in_use.ensures,
+      c.either-attached.ensures,
     ))
-    (c.with_code.ensures ∙ ap (λ (n : ℕ). with_code checked.needs3.result (tells n 0)) answers)
+    (c.with_code.ensures ∙ ap (λ (n : ℕ). with_code c.needs-code-3.result (tells n 0)) answers)
     ).answer_is
-
-pub state-spec : {M : Type 1} → statement M
-state-spec =
-    tie.close
-    (tie.spec
-    (λ c κs. search rules)
-    (λ c κs. search rules)
-    (λ c κs. search rules)
-    (λ c κs. search rules)
-    (λ c κs. search rules)
-    (λ c κs. search rules)
-    (λ c κs. search rules)
-    (λ c κs. search rules)
-    (λ c κs. search rules)
-    (λ c κs. search rules)
-    (λ c κs. search rules)
-    returns)
