@@ -16,7 +16,10 @@ pub absent_done : Waits Absent → ⊥
 absent_done = ⊎_elim (λ e. omega (arith, ap state_number e)) (λ e. omega (arith, ap state_number e))
 
 noticed-number : (s : State) → 0 < state_number (noticed s)
-noticed-number s = elim s [ Absent ↦ omega arith | Unseen ↦ omega arith | Open ↦ omega arith | Consumed ↦ omega arith ]
+noticed-number Absent = omega arith
+noticed-number Unseen = omega arith
+noticed-number Open = omega arith
+noticed-number Consumed = omega arith
 
 -- a time that a visible time allows
 abbrev pub Allowed : View → ℕ → Type 0
@@ -158,7 +161,10 @@ module _ (v : View) where
       (λ n. below_elim (Turn v n (s n)) n bound Consumed (s n) (λ under. consumes (s n)) (λ above. rests (s n)))
 
   notices : (timestamp : ℕ) → Allowed v timestamp → (s : State) → Turn v timestamp s (noticed s)
-  notices timestamp may s = elim s [ Absent ↦ comes may | Unseen ↦ rests Unseen | Open ↦ rests Open | Consumed ↦ rests Consumed ]
+  notices timestamp may Absent = comes may
+  notices timestamp may Unseen = rests Unseen
+  notices timestamp may Open = rests Open
+  notices timestamp may Consumed = rests Consumed
 
   pub turned-noticing : (channel timestamp : ℕ) → Allowed v timestamp → (c : Connection) → Turned v c (noticing channel timestamp c)
   turned-noticing channel timestamp may unused = alike unused

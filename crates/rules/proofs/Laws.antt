@@ -63,7 +63,10 @@ abbrev numbered : ℕ → State
 numbered n = cond (eqb n 0) Absent (cond (eqb n 1) Unseen (cond (eqb n 2) Open Consumed))
 
 known : (s : State) → numbered (state_number s) ≡ s
-known s = elim s [ Absent ↦ refl | Unseen ↦ refl | Open ↦ refl | Consumed ↦ refl ]
+known Absent = refl
+known Unseen = refl
+known Open = refl
+known Consumed = refl
 
 pub state_is : (a s : State) → Dec (s ≡ a)
 state_is a s = map_dec (λ e. sym (known s) ∙ ap numbered e ∙ known a) (ap state_number) (ℕ_discrete (state_number s) (state_number a))

@@ -20,7 +20,10 @@ every_input_sees v run k channel mark = fits_sees v k channel mark (v.connection
 -- ---- forward
 
 consumed_last : (s : State) → state_number s ≤ 3
-consumed_last s = elim s [ Absent ↦ omega arith | Unseen ↦ omega arith | Open ↦ omega arith | Consumed ↦ omega arith ]
+consumed_last Absent = omega arith
+consumed_last Unseen = omega arith
+consumed_last Open = omega arith
+consumed_last Consumed = omega arith
 
 turn_forward : {v : View} {timestamp : ℕ} {old new : State} → Turn v timestamp old new → state_number old ≤ state_number new
 turn_forward (rests s) = le_refl (state_number s)

@@ -84,7 +84,9 @@ module _ (v : View) (o : ViewInOrder v) (items : List Item) (those : Listed v ev
   lacks_is connection which = map_dec (λ lacks t q. lacks (t, q)) (λ lacks (t, q). lacks t q) (Dec·not (takes_is connection which))
 
   named_is : (which : Which) → Dec (NamesNever which)
-  named_is which = elim which [ Earliest ↦ no (λ q. q) | Latest ↦ no (λ q. q) | Named name ↦ dec_le never name ]
+  named_is Earliest = no (λ q. q)
+  named_is Latest = no (λ q. q)
+  named_is (Named name) = dec_le never name
 
   short_settles : (bound : Bound) (slice : List ℕ) → Settles (slice_short v (BoundOf v bound) slice)
   short_settles bound slice =

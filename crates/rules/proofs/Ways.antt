@@ -118,7 +118,9 @@ at_least_allowed {v} {least} a time (thread, visible, is, late) =
     omega arith
 
 pub takes_fits : (which : Which) (Fits : ℕ → Type 0) (timestamp : ℕ) → Takes which Fits timestamp → Fits timestamp
-takes_fits which Fits timestamp = elim which [ Earliest ↦ λ takes. takes.0 | Latest ↦ λ takes. takes.0 | Named name ↦ λ takes. takes.0 ]
+takes_fits Earliest Fits timestamp takes = takes.0
+takes_fits Latest Fits timestamp takes = takes.0
+takes_fits (Named name) Fits timestamp takes = takes.0
 
 -- ---- the six ways
 
