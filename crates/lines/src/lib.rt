@@ -60,6 +60,7 @@ pub fn read(line: &[u8]) -> Line
 }
 
 // The numbers that follow a letter. A byte that is no letter has none.
+#[tactic(auto, unfolding(crate::specs::Lines::form_among))]
 fn limits_of(letter: u8) -> Limits
     ensures { (limits_from result.0 result.1 ≡ (form_of letter).limits) × WithinLine result.0 result.1 }
 {
@@ -145,6 +146,7 @@ fn number_at(line: &[u8], from: usize, largest: u64) -> Field
 }
 
 // The call of a letter with its numbers.
+#[tactic(auto, unfolding(crate::specs::Lines::form_among))]
 fn called(letter: u8, numbers: [u64; MOST_NUMBERS]) -> Line
     requires { FirstThreeNumbers numbers }
     ensures { result ≡ (form_of letter).line (λ place. get_or numbers place 0) }
