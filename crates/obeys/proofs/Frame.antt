@@ -1,6 +1,6 @@
 -- A call does what its view says where its checks agree with the refusals of the view, and its effect with what is accepted. Assumes nothing.
 use Rattle.obeys.proofs.Basis.{◌≡◌, ap, refl, subst, sym, Bool, cond, false, true, inl, inr, List, [], ◌∷◌, ℕ, Call, slice_of, Told, Check, decided, needs, refusal, Pass, bool_cases, passed, true_not_false, checks, effect}
-use Rattle.obeys.proofs.Basis.{outcome, slice_after, step, told, Desk, Passed, passing, Does, NoneOf, Not, Outcome, Refusal, Refuses, View, done, refuse, rule, outcome_of, view_of, answer, passes, ◌&&◌}
+use Rattle.obeys.proofs.Basis.{outcome, slice_after, step, told, Desk, Passed, passing, Does, NoneOf, Not, Outcome, Refusal, Refuses, View, done, refuse, rule, outcome_of, view_of, passes, ◌&&◌}
 use Rattle.rows.specs.declared.Answer.{Answer}
 use Rattle.desk.specs.declared.Next.{Next}
 use Rattle.obeys.proofs.Reached.{step-accepted}

@@ -1,6 +1,6 @@
 -- A step by its checks; a call leads from a reached desk to a reached desk, so a law of every reached desk needs one law of a step. Assumes nothing.
 use Rattle.obeys.proofs.Basis.{AllPassable, Call, Desk, List, Passable, Passed, Reached, [], ◌++◌, ◌∙◌, ◌∷◌, ◌≡◌, accepted, after, ap, bool_cases, checks, effect, fresh, outcome, pass_decided, passed, passing, refl, step}
-use Rattle.obeys.proofs.Basis.{subst, told, answer, passable_more, passes, true}
+use Rattle.obeys.proofs.Basis.{subst, told, passable_more, passes, true}
 use Rattle.obeys.specs.Reached.{DeskStart, fresh_desk}
 
 -- ---- a step

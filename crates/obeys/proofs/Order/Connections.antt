@@ -80,13 +80,19 @@ module _ {channels : ℕ} {owned : List ℕ} {outputs : ℕ} {leads : List ℕ} 
       writing_elsewhere = one_elsewhere reads (same_elsewhere outputs free) (with_elsewhere outputs free)
 
       one_more : either reading writing ≡ with attached free
-      one_more = elim reads [ true ↦ either-with-left inputs outputs free | false ↦ either-with_right inputs outputs free ]
+      one_more =
+          elim reads as (λ (b : Bool). either (cond b (with inputs free) inputs) (cond b outputs (with outputs free)) ≡ with attached free)
+          [ true ↦ either-with-left inputs outputs free | false ↦ either-with_right inputs outputs free ]
 
       one_way : has reading free ≡ true → has writing free ≡ false
-      one_way = elim reads [ true ↦ (λ there. no_output) | false ↦ (λ there. absurd (true_not_false there no_input)) ]
+      one_way =
+          elim reads as (λ (b : Bool). has (cond b (with inputs free) inputs) free ≡ true → has (cond b outputs (with outputs free)) free ≡ false)
+          [ true ↦ (λ there. no_output) | false ↦ (λ there. absurd (true_not_false there no_input)) ]
 
       no_reader : has reading free ≡ false → reads ≡ false
-      no_reader = elim reads [ true ↦ (λ lacking. absurd (with_there inputs {p = free} (omega arith) lacking)) | false ↦ (λ lacking. refl) ]
+      no_reader =
+          elim reads as (λ (b : Bool). has (cond b (with inputs free) inputs) free ≡ false → b ≡ false)
+          [ true ↦ (λ lacking. absurd (with_there inputs {p = free} (omega arith) lacking)) | false ↦ (λ lacking. refl) ]
 
       still-reads : (connection : ℕ) → connection < connection_places → has inputs connection ≡ true → has reading connection ≡ true
       still-reads connection inside there =
