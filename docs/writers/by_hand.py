@@ -17,10 +17,10 @@ def functions(crossing):
     found = [" ".join(each.split()) for each in re.findall(r"^\w+ desk_\w+\([^;]*\);", text("include/desk.h"), re.M)]
     for each in wanted:
         if each not in found:
-            yield f"include/desk.h has no '{each}', which crates/lent exports; write it there by hand, with its comment"
+            yield f"include/desk.h has no '{each}', which crates/lent_c exports; write it there by hand, with its comment"
     for each in found:
         if each not in wanted:
-            yield f"include/desk.h has '{each}', which crates/lent does not export; mend it there by hand"
+            yield f"include/desk.h has '{each}', which crates/lent_c does not export; mend it there by hand"
 
 
 def sentences(crossing):

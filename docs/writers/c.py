@@ -79,7 +79,7 @@ def slice_of(functions):
     """The type of the slices that are lent: the table of calls has room for one."""
     kinds = sorted({kind for function in functions for _, kind in function.parameters if SLICE.fullmatch(kind)})
     if len(kinds) != 1:
-        raise Wrong(f"hosts/c/calls.h makes calls with slices of one type, and crates/lent has {' and '.join(kinds) or 'none'}")
+        raise Wrong(f"hosts/c/calls.h makes calls with slices of one type, and crates/lent_c has {' and '.join(kinds) or 'none'}")
     return kinds[0]
 
 

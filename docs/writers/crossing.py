@@ -134,9 +134,10 @@ class Crossing:
 
     def exported(self):
         """The functions of the library, in the order in which the header has them."""
-        found = re.findall(r'pub extern "C" fn (\w+)\(([^)]*)\) -> (\w+)', self.sources.code)
-        if not found or len(found) != self.sources.code.count('pub extern "C" fn '):
-            raise Wrong("crates/lent must export functions, all of the form 'NAME(NAME: TYPE, ..) -> TYPE', which is read here")
+        code = "\n".join(map(text, sorted((ROOT / "crates/lent_c/src").glob("**/*.rt"))))
+        found = re.findall(r'pub extern "C" fn (\w+)\(([^)]*)\) -> (\w+)', code)
+        if not found or len(found) != code.count('pub extern "C" fn '):
+            raise Wrong("crates/lent_c must export functions, all of the form 'NAME(NAME: TYPE, ..) -> TYPE', which is read here")
         parted = re.compile(r"(\w+): ([^,\n]+)")
         functions = [Function(name, tuple(parted.findall(parameters)), result) for name, parameters, result in found]
         header = text("include/desk.h")
@@ -150,7 +151,7 @@ class Crossing:
             size, alignment = self.lay_out(array[1])
             return size * int(array[2]), alignment
         if kind not in self.structs:
-            declared = re.findall(rf"#\[repr\(C\)\]\s*pub struct {kind} \{{(.*?)\n\}}", self.sources.code, re.S)
+            declared = re.findall(rf"#\[repr\(C\)\]\s*(?:#\[derive\([\w, ]*\)\]\s*)?pub struct {kind} \{{(.*?)\n\}}", self.sources.code, re.S)
             if len(declared) != 1:
                 raise Wrong(f"the code below crates/ must have one #[repr(C)] pub struct {kind}, and has {len(declared)}")
             self.structs[kind] = self.laid_out(kind, re.findall(r"^ *([^/\s].*),$", declared[0], re.M))

@@ -7,11 +7,11 @@ ghost use Rattle.desk.specs.Desk.{fresh};
 
 use desk::Desk;
 
-mod connections;
-mod items;
-mod questions;
-mod sweeps;
-mod threads;
+pub mod connections;
+pub mod items;
+pub mod questions;
+pub mod sweeps;
+pub mod threads;
 
 // A fresh desk, handed to the host.
 #[unsafe(no_mangle)]
