@@ -3,16 +3,32 @@ use mathlib.Core.Bool.{Bool, true, false, cond}
 use mathlib.Core.List.{List, [], ◌∷◌}
 use mathlib.Core.Option.{Option, none, some}
 use mathlib.Core.Path.{◌≡◌, refl, sym, ap}
+use Prim.Native.Char.{Char, code}
 use Prim.Native.Nat.{ℕ, ◌<◌}
 use native.Mathlib.Omega.{arith}
-use borrow.Author.Tests.{eqb-true}
+use borrow.Author.Tests.{eqb-true, ne_eqb}
 use lib.Dec.{eqb}
 use lib.ListN.{length, drop, get_or}
-use Rattle.lines.specs.Lines.{space, fields_of, join_first, no_form, form_among, form_of, line_with, line_of, read_line}
+use Rattle.lines.specs.Lines.{space, fields_of, join_first, Form, no_form, forms, form_among, form_of, line_with, line_of, read_line}
 use Rattle.lines.specs.Reading.{first_field, numbers_in}
 use Rattle.lines.specs.declared.Line.TheVariants.{Unreadable}
 use Rattle.lines.proofs.Fields.{first_and_behind}
 use Rattle.lines.proofs.Behind.{rest_of_field, numbers_of_fields}
+
+-- no form has this byte for its letter: what a match on the letter of each, in their order, leaves to its last arm, beside N
+abbrev Missing : Type 0 → List (Char × Form) → ℕ → Type 0
+Missing N [] byte = N
+Missing N (row ∷ rows) byte = Missing (N × (byte ≡ code row.0 → ⊥)) rows byte
+
+missing : {N : Type 0} (rows : List (Char × Form)) (byte : ℕ) → Missing N rows byte → N × (form_among rows byte ≡ no_form)
+unfolding form_among
+missing [] byte others = (others, refl)
+missing (row ∷ rows) byte others =
+    let rest = missing rows byte others in
+    (rest.0.0, rw (ne_eqb byte (code row.0) rest.0.1) rest.1)
+
+pub no_form_lem : (byte : ℕ) → Missing (Unit {0}) forms byte → form_of byte ≡ no_form
+no_form_lem byte others = (missing forms byte others).1
 
 pub empty_line : (line : List ℕ) → length line ≡ 0 → read_line line ≡ Unreadable
 unfolding read_line fields_of line_of

@@ -11,7 +11,7 @@ use Rattle.rules.proofs.Bounds.{bounds_never_fall}
 use Rattle.rules.proofs.Accounts.{accounts_balance, fresh_accounts_balance}
 use Rattle.rules.proofs.Swept.{swept_exactly_the_unreachable, weakly_swept_only_the_unreachable}
 use Rattle.rules.proofs.Ways.{bound_one}
-use Rattle.rules.proofs.Deserted.{never-without_threads, refused_without_threads}
+use Rattle.rules.proofs.Deserted.{never_without_threads, refused_without_threads}
 use Rattle.rules.proofs.Seen.{seen_moves_forward}
 use Rattle.rules.proofs.Twice.{no_pair_twice}
 use Rattle.obeys.specs.Claims.{DeskHandsBack, PutAccepted, DeskSweepsOnly, DeskNeverWithoutThreads, DeskRefusedWithoutThreads, DeskMovesForward, DeskNoPairTwice, FreshDeskAccountsBalance}
@@ -89,9 +89,9 @@ desk_sweeps_only d r =
       only = swept.only;
     }
 
-pub desk_never-without_threads : DeskNeverWithoutThreads
-desk_never-without_threads d r dead bound =
-    bound_one (view_of d) bound (bound_of d bound) never (desk_bounds d r bound) (never-without_threads (view_of d) (reached_reachable d r) (λ t. dead_view d t (dead t)) bound)
+pub desk_never_without_threads : DeskNeverWithoutThreads
+desk_never_without_threads d r dead bound =
+    bound_one (view_of d) bound (bound_of d bound) never (desk_bounds d r bound) (never_without_threads (view_of d) (reached_reachable d r) (λ t. dead_view d t (dead t)) bound)
 
 pub desk_refused_without_threads : DeskRefusedWithoutThreads
 unfolding outcome_of

@@ -89,7 +89,7 @@ DeskBounds = (d : Desk) → Reached d → (bound : Bound) → BoundOf (view_of d
 abbrev pub DeskBoundsNeverFall : Type 0
 DeskBoundsNeverFall = (d : Desk) → Reached d → (calls : List Call) → AllPassable calls → (bound : Bound) → bound_of d bound ≤ bound_of (after d calls) bound
 
--- "With no living thread both bounds are never.": `desk_never-without_threads`; "every later call that names a thread is refused":
+-- "With no living thread both bounds are never.": `desk_never_without_threads`; "every later call that names a thread is refused":
 -- `desk_refused_without_threads`
 abbrev pub NoThreads : Desk → Type 0
 NoThreads d = (thread : ℕ) → is_living d thread ≡ false

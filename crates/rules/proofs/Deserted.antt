@@ -36,6 +36,6 @@ deserted v o dead bound = record {
   attained = λ under. absurd (omega arith);
 }
 
-pub never-without_threads : NeverWithoutThreads
-never-without_threads v run dead Weak = deserted v (every_view_in_order v run) dead Weak
-never-without_threads v run dead Strong = deserted v (every_view_in_order v run) dead Strong
+pub never_without_threads : NeverWithoutThreads
+never_without_threads v run dead Weak = deserted v (every_view_in_order v run) dead Weak
+never_without_threads v run dead Strong = deserted v (every_view_in_order v run) dead Strong

@@ -97,7 +97,7 @@ BoundsNeverFall =
 abbrev pub WeakBelowStrong : Type 0
 WeakBelowStrong = (v : View) → Reachable v → (weak strong : ℕ) → WeakBound v weak → StrongBound v strong → weak ≤ strong
 
--- "With no living thread both bounds are never.": `never-without_threads`
+-- "With no living thread both bounds are never.": `never_without_threads`
 abbrev pub NeverWithoutThreads : Type 0
 NeverWithoutThreads = (v : View) → Reachable v → ((thread : ℕ) → v.thread thread ≡ none) → (bound : Bound) → BoundOf v bound never
 

@@ -228,8 +228,8 @@ module _ (before : Heard) (got : ℤ) (input : List ℕ) (after : Heard) (on : b
 session_text_lem : (all : List ℕ) → length (session_text all) ≡ length (printed_for start all) + length (printed_at_end (reader_after start all))
 session_text_lem all = sym (ap length (session_at_once all)) ∙ length-append (printed_for start all) _
 
-pub cut_before-end : (all : List ℕ) (taken : ℕ) → Cut 0 (printed_for start all) taken → Cut 0 (session_text all) taken
-cut_before-end all taken cut = (cut.0, omega (arith, cut.1, session_text_lem all), cut.2)
+pub cut_before_end : (all : List ℕ) (taken : ℕ) → Cut 0 (printed_for start all) taken → Cut 0 (session_text all) taken
+cut_before_end all taken cut = (cut.0, omega (arith, cut.1, session_text_lem all), cut.2)
 
 module _ (all : List ℕ) (r : Reader) (taken room written took : ℕ) (reads : r ≡ reader_after start all) (takes : Taken 0 (printed_for start all) taken)
     (enough : answer_room ≤ room) (writes : written ≡ length (written_at_end r room)) where

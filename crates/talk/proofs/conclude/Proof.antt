@@ -8,7 +8,7 @@ use lib.ListN.{length}
 use lib.Seq.{length-take-le}
 use Rattle.session.specs.Stream.{written_at_end}
 use Rattle.session.proofs.Room.{written_fits}
-use Rattle.talk.proofs.Telling.{cut_before-end, spoken, spoken_cut}
+use Rattle.talk.proofs.Telling.{cut_before_end, spoken, spoken_cut}
 use Rattle.talk.proofs.conclude.Statement.{statement}
 use Rattle.talk.proofs.conclude.Tie as tie
 
@@ -64,7 +64,7 @@ returns-2 c =
 returns-3 : tie.Need-returns-3
 returns-3 c = (
   (λ e. absurd (c.if1.false e), λ other. refl),
-  λ all heard. (heard.0, λ e. absurd (c.if1.false e), λ e. cut_before-end all _ (heard.1 e), λ end failed. (heard.2 failed).1),
+  λ all heard. (heard.0, λ e. absurd (c.if1.false e), λ e. cut_before_end all _ (heard.1 e), λ end failed. (heard.2 failed).1),
 )
 
 pub conclude-spec : {M : Type 1} → statement M
