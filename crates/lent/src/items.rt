@@ -27,14 +27,14 @@ fn which_of(number: u32, timestamp: u32) -> Which
     }
 }
 
-// The by_value get, with the number of what it asks for.
+// The by-value get, with the number of what it asks for.
 fn chosen(desk: Desk, thread: u32, connection: u32, number: u32, timestamp: u32) -> Next
     ensures { result ≡ step desk (get thread connection (which_of number timestamp)) }
 {
     desk.get(thread, connection, which_of(number, timestamp))
 }
 
-// The three gets are this one. A by_value call with one caller is compiled into it, and then copies columns and not the desk.
+// The three gets are this one. A by-value call with one caller is compiled into it, and then copies columns and not the desk.
 fn get(desk: &mut Desk, thread: u32, connection: u32, number: u32, timestamp: u32) -> Answer
     ensures { lent_back result desk.new ≡ step desk.old (get thread connection (which_of number timestamp)) }
 {

@@ -1,5 +1,5 @@
-// The host's layer: one desk for the whole day, lent to each call. Each function makes the by_value call on the
-// desk behind the reference and stores the next desk back. These are the functions that a host in C, Rust or Python links.
+// The host's layer: one desk for the whole day, lent to each call. Each function makes the by-value call on the
+// desk behind the reference and stores the next desk back. lent_c exports these functions to a host in C, Rust or Python.
 #![tactic(auto)]
 
 ghost use Rattle.std.specs.Prelude.{◌≡◌};

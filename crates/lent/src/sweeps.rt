@@ -23,14 +23,14 @@ fn bound_of(number: u32) -> Bound
     }
 }
 
-// The by_value sweep, with the number of the bound that it takes.
+// The by-value sweep, with the number of the bound that it takes.
 fn swept(desk: Desk, slice: &mut [u64], number: u32) -> Next
     ensures { (result ≡ step desk (sweep (bound_of number) slice.old)) × (slice.new ≡ slice_after desk (sweep (bound_of number) slice.old)) }
 {
     desk.sweep(bound_of(number), slice)
 }
 
-// The two sweeps are this one, so that the by_value sweep has one caller and is compiled into it.
+// The two sweeps are this one, so that the by-value sweep has one caller and is compiled into it.
 fn sweep(desk: &mut Desk, slice: &mut [u64], number: u32) -> Answer
     ensures { (lent_back result desk.new ≡ step desk.old (sweep (bound_of number) slice.old)) × (slice.new ≡ slice_after desk.old (sweep (bound_of number) slice.old)) }
 {
