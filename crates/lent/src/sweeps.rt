@@ -6,7 +6,7 @@ ghost use Rattle.lent.specs.Lent.{lent_back};
 ghost use Rattle.lent.specs.Sweeps.{bound_of};
 
 use calls::Bound;
-use desk::{Desk, Next};
+use desk::Desk;
 use rows::Answer;
 
 const WEAK: u32 = 0;
@@ -23,19 +23,13 @@ fn bound_of(number: u32) -> Bound
     }
 }
 
-// The by-value sweep, with the number of the bound that it takes.
-fn swept(desk: Desk, slice: &mut [u64], number: u32) -> Next
-    ensures { (result ≡ step desk (sweep (bound_of number) slice.old)) × (slice.new ≡ slice_after desk (sweep (bound_of number) slice.old)) }
-{
-    desk.sweep(bound_of(number), slice)
-}
-
-// The two sweeps are this one, so that the by-value sweep has one caller and is compiled into it.
+// The two sweeps are this one, so that the by-value sweep has one caller and is compiled into it. No function stands between: it would copy
+// the desk once more.
 fn sweep(desk: &mut Desk, slice: &mut [u64], number: u32) -> Answer
     ensures { (lent_back result desk.new ≡ step desk.old (sweep (bound_of number) slice.old)) × (slice.new ≡ slice_after desk.old (sweep (bound_of number) slice.old)) }
 {
     let d = *desk;
-    let next = swept(d, slice, number);
+    let next = d.sweep(bound_of(number), slice);
     *desk = next.desk;
     next.answer
 }
