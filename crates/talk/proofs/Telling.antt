@@ -6,14 +6,10 @@ use mathlib.Core.Path.{◌≡◌, refl, ap, sym, ◌∙◌}
 use Prim.Native.Nat.{ℕ, suc, ◌+◌, ◌-◌, ◌≤◌, ◌<◌, min}
 use native.Mathlib.Omega.{arith}
 use lib.Dec.{eqb, ltb}
-use lib.IntN.{ℤ, pos, negsuc}
-use mir.Syntax.{w64}
-use mir.Val.{SFits, of_z, to_z}
-use mir.Facts.{to_z-of_z}
 use lib.ListN.{length, take, drop, length-append, length-drop, take-append-drop}
 use lib.Seq.{length-take-le, take-add, take_all}
 use borrow.Author.Tests.{eq-eqb, eqb-false, eqb-true, le-ltb, ltb-false, ne_eqb}
-use Rattle.io.specs.Counts.{clamp_len}
+use Rattle.std.specs.Prelude.{Result, Ok, Err}
 use Rattle.text.specs.Text.{answer_room}
 use Rattle.session.specs.declared.Reader.{Reader}
 use Rattle.session.specs.declared.Notes.{Notes}
@@ -22,7 +18,7 @@ use Rattle.session.specs.Sessions.{lines_of, session_text}
 use Rattle.session.specs.Stream.{noted_at_end, notes_at_end, printed_at_end, printed_for, reader_after, start, used_of, written_at_end}
 use Rattle.session.proofs.Parts.{notes_of_session, session_at_once}
 use Rattle.talk.specs.declared.Heard.{Heard}
-use Rattle.talk.specs.Talk.{Concludes, Cut, GoesOn, HeardWhole, Hears, HearsBy, Taken, comes_to, ended, goes_on, is_zero, read_failed, too_much, write_failed}
+use Rattle.talk.specs.Talk.{Concludes, Cut, GoesOn, HeardWhole, Hears, HearsBy, Taken, clamp_len, comes_to, ended, goes_on, is_zero, read_failed, too_much, write_failed}
 use Rattle.session.proofs.Feeding.{printed-append, reader-append}
 use Rattle.session.proofs.Room.{used_fits, used_some}
 
@@ -42,9 +38,9 @@ used_any [] r room enough none = omega arith
 used_any (byte ∷ bytes) r room enough some = used_some byte bytes r room enough
 
 -- no more bytes came than there is room for
-clamped_le : (z : ℤ) (most : ℕ) → clamp_len z most ≤ most
-clamped_le (pos n) most = omega arith
-clamped_le (negsuc n) most = omega arith
+pub clamped_le : {E : Type 0} (got : Result ℕ E) (most : ℕ) → clamp_len got most ≤ most
+clamped_le (Ok n) most = omega arith
+clamped_le (Err e) most = omega arith
 
 -- the answers to the first bytes of a part are no longer than those to all of it
 prefix_text : (r : Reader) (part : List ℕ) (n : ℕ) → length (printed_for r (take n part)) ≤ length (printed_for r part)
@@ -127,19 +123,11 @@ module _ (first : Reader) (before : ℕ) (part : List ℕ) (from : ℕ) (r : Rea
 
 -- ---- what a read has answered
 
--- the bits of a number that is read are those of 0 only where it is 0
-pub zero_bits : (got : ℤ) → SFits w64 got → of_z w64 got ≡ 0 → is_zero got ≡ true
-zero_bits got fits e = ap is_zero (sym (to_z-of_z fits) ∙ ap (to_z w64) e)
-
-pub nonzero_bits : (got : ℤ) → (of_z w64 got ≡ 0 → ⊥) → is_zero got ≡ false
-nonzero_bits (pos n) some = ne_eqb n 0 (λ (e : n ≡ 0). some (ap (λ (m : ℕ). of_z w64 (pos m)) e))
-nonzero_bits (negsuc n) some = refl
-
 -- while the session goes on, so many bytes are left to be counted
 abbrev pub left_to_count : Heard → ℕ
 left_to_count heard = cond (eqb heard.how goes_on) (suc (largest_count - heard.bytes)) 0
 
-module _ (before : Heard) (got : ℤ) (input : List ℕ) (after : Heard) (on : before.how ≡ goes_on) where
+module _ {E : Type 0} (before : Heard) (got : Result ℕ E) (input : List ℕ) (after : Heard) (on : before.how ≡ goes_on) where
   abbrev came : ℕ
   came = clamp_len got (length input)
 

@@ -1,7 +1,6 @@
 -- What the session program promises. No contract of the system says which bytes a read brings or a write takes: what is said here is said of the
 -- input that was read, whatever it was, and of how many bytes the system has said that it took. Assumes nothing.
-use Rattle.std.specs.Prelude.{Bool, true, false, List, ◌⊎◌, ◌≡◌, ℕ, ◌+◌, ◌<◌, eqb, ltb, ℤ, pos, negsuc, length, take}
-use Rattle.io.specs.Counts.{clamp_len}
+use Rattle.std.specs.Prelude.{Bool, true, false, List, ◌⊎◌, ◌≡◌, ℕ, ◌+◌, ◌<◌, ◌≤◌, eqb, ltb, length, min, take, Result, Ok, Err}
 use Rattle.session.specs.declared.Reader.{Reader}
 use Rattle.session.specs.Notes.{counted_to, largest_count, none_yet, notes_of}
 use Rattle.session.specs.Sessions.{lines_of, session_text}
@@ -9,6 +8,10 @@ use Rattle.session.specs.Stream.{printed_for, reader_after, start}
 use Rattle.talk.specs.declared.End.{End}
 use Rattle.talk.specs.declared.Heard.{Heard}
 use Rattle.talk.specs.declared.Told.{Told}
+
+-- so many bytes of a text are at its front, and they are as many
+abbrev pub IsPrefixLen : ℕ → List ℕ → Type 0
+IsPrefixLen n text = (n ≤ length text) × (n ≡ length (take n text))
 
 -- what a session came to: it goes on, its input has ended, a read has failed, a write has failed, or no number could count the bytes of its input
 abbrev pub goes_on : ℕ
@@ -52,9 +55,14 @@ GoesOn before part after =
     × (((after.how ≡ goes_on) × (after.reader ≡ reader_after before.reader part) × Taken before.taken (printed_for before.reader part) after.taken)
     ⊎ ((after.how ≡ write_failed) × Cut before.taken (printed_for before.reader part) after.taken))
 
-abbrev pub is_zero : ℤ → Bool
-is_zero (pos n) = eqb n 0
-is_zero (negsuc n) = false
+abbrev pub is_zero : {E : Type 0} → Result ℕ E → Bool
+is_zero (Ok n) = eqb n 0
+is_zero (Err e) = false
+
+-- how many bytes came, of at most so many
+abbrev pub clamp_len : {E : Type 0} → Result ℕ E → ℕ → ℕ
+clamp_len (Ok n) most = min n most
+clamp_len (Err e) most = 0
 
 -- by whether it answered 0, whether no bytes came though it did not, and whether they cannot be counted
 abbrev pub HearsBy : Bool → Bool → Bool → Heard → List ℕ → Heard → Type 0
@@ -63,8 +71,8 @@ HearsBy false true uncounted before part after = after ≡ comes_to read_failed 
 HearsBy false false true before part after = after ≡ comes_to too_much before
 HearsBy false false false before part after = GoesOn before part after
 
--- 0 is the end of the input, a negative number a failure, and any other the number of bytes that came
-unfoldable pub Hears : Heard → ℤ → List ℕ → Heard → Type 0
+-- 0 is the end of the input, an error a failure, and any other number the number of bytes that came
+unfoldable pub Hears : {E : Type 0} → Heard → Result ℕ E → List ℕ → Heard → Type 0
 Hears before got input after =
     let came = clamp_len got (length input) in
     HearsBy (is_zero got) (eqb came 0) (ltb largest_count (before.bytes + came)) before (take came input) after
