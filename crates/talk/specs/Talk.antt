@@ -1,6 +1,8 @@
 -- What the session program promises. No contract of the system says which bytes a read brings or a write takes: what is said here is said of the
 -- input that was read, whatever it was, and of how many bytes the system has said that it took. Assumes nothing.
 use Rattle.std.specs.Prelude.{Bool, true, false, List, ◌⊎◌, ◌≡◌, ℕ, ◌+◌, ◌<◌, ◌≤◌, eqb, ltb, length, min, take, Result, Ok, Err}
+use Rattle.std.specs.Io.KnownBytes.{Appends, Consumes, IsAtEnd, Keeps}
+use Rattle.std.specs.declared.option.Option.{Option}
 use Rattle.session.specs.declared.Reader.{Reader}
 use Rattle.session.specs.Notes.{counted_to, largest_count, none_yet, notes_of}
 use Rattle.session.specs.Sessions.{lines_of, session_text}
@@ -98,3 +100,45 @@ Spoken end input =
     × (end.how ≡ ended → Taken 0 (session_text input) end.taken × (end.notes ≡ notes_of none_yet (lines_of input)))
     × (end.how ≡ write_failed → Cut 0 (session_text input) end.taken)
     × ((end.how ≡ ended → ⊥) → (end.how ≡ write_failed → ⊥) → Taken 0 (printed_for start input) end.taken)
+
+-- ---- where the bytes that the reader has left, or those that the writer holds, are known: as of a slice and a vector, and never of the system's own ends.
+-- Each is said of what was known before and of what is known after; of what is not known nothing is said
+
+-- the first bytes of a text were written, but not all of them
+abbrev pub WroteSome : Option (List ℕ) → Option (List ℕ) → List ℕ → Type 0
+WroteSome old new text = (some : ℕ) × (some < length text) × Appends old new (take some text)
+
+-- a text was written, whole or not
+abbrev pub Wrote : Bool → Option (List ℕ) → Option (List ℕ) → List ℕ → Type 0
+Wrote true old new text = Appends old new text
+Wrote false old new text = WroteSome old new text
+
+-- the answers to what a read has brought were written where the session goes on, some of them where a write has failed, and else nothing
+abbrev pub HearsWriting : ℕ → Option (List ℕ) → Option (List ℕ) → List ℕ → Type 0
+HearsWriting how old new text =
+    (how ≡ goes_on → Appends old new text)
+    × (how ≡ write_failed → WroteSome old new text)
+    × ((how ≡ goes_on → ⊥) → (how ≡ write_failed → ⊥) → Keeps old new)
+
+-- the input is what the reader has given, but where no number could count it; and at its end nothing is left there, if a read had room for some
+abbrev pub Gave : ℕ → ℕ → Option (List ℕ) → Option (List ℕ) → List ℕ → Type 0
+Gave room how old new input = ((how ≡ too_much → ⊥) → Consumes old new input) × (0 < room → how ≡ ended → IsAtEnd new)
+
+-- its answers were written, but where a write has failed only some of them
+abbrev pub HeardWriting : ℕ → Option (List ℕ) → Option (List ℕ) → List ℕ → Type 0
+HeardWriting how old new input =
+    (how ≡ write_failed → WroteSome old new (printed_for start input)) × ((how ≡ write_failed → ⊥) → Appends old new (printed_for start input))
+
+-- at the end of the input the answer to its last line was written, or only some of it; else nothing more
+abbrev pub ConcludesWriting : ℕ → ℕ → Option (List ℕ) → Option (List ℕ) → List ℕ → Type 0
+ConcludesWriting heard end old new text =
+    (heard ≡ ended → end ≡ ended → Appends old new text)
+    × (heard ≡ ended → end ≡ write_failed → WroteSome old new text)
+    × ((heard ≡ ended → ⊥) → Keeps old new)
+
+-- where the input has ended, the text of the whole session was written; where a write has failed, some of it; else the answers to what was read
+abbrev pub SpokenWriting : ℕ → Option (List ℕ) → Option (List ℕ) → List ℕ → Type 0
+SpokenWriting how old new input =
+    (how ≡ ended → Appends old new (session_text input))
+    × (how ≡ write_failed → WroteSome old new (session_text input))
+    × ((how ≡ ended → ⊥) → (how ≡ write_failed → ⊥) → Appends old new (printed_for start input))

@@ -5,9 +5,10 @@
 
 mod waiting;
 
-ghost use Rattle.std.specs.Prelude.{◌≡◌, List, ℕ, ◌≤◌, length};
+ghost use Rattle.std.specs.Prelude.{◌≡◌, List, ℕ, ◌≤◌, length, take};
 ghost use Rattle.text.specs.Text.{answer_room};
-ghost use Rattle.talk.specs.Talk.{Answers, Concludes, HeardWhole, Hears, Spoken, clamp_len, goes_on, is_zero};
+ghost use Rattle.session.specs.Stream.{printed_at_end, printed_for};
+ghost use Rattle.talk.specs.Talk.{Answers, Concludes, ConcludesWriting, Gave, HeardWhole, HeardWriting, Hears, HearsWriting, Spoken, SpokenWriting, Wrote, clamp_len, goes_on, is_zero};
 
 use session::{Notes, Reader};
 use std::fs::OpenOptions;
@@ -71,7 +72,9 @@ fn tell<C: Clock, R: Read, W: Write>(
     out: &mut [u8],
 ) -> Told
     requires { answer_room ≤ length out.old }
-    ensures { Answers reader taken part.now result }
+    ensures answers { Answers reader taken part.now result }
+    ensures reader { ends.new.from ≡ ends.old.from }
+    ensures wrote { Wrote result.whole (W.contents ends.old.to) (W.contents ends.new.to) (printed_for reader part.now) }
 {
     let mut now = reader;
     let mut so_far = taken;
@@ -128,7 +131,10 @@ fn hear<C: Clock, R: Read, W: Write>(
     out: &mut [u8],
 ) -> Heard
     requires { answer_room ≤ length out.old }
-    ensures { Hears heard got input.now result }
+    ensures hears { Hears heard got input.now result }
+    ensures reader { ends.new.from ≡ ends.old.from }
+    ensures wrote { let part = take (clamp_len got (length input.now)) input.now in
+        HearsWriting result.how (W.contents ends.old.to) (W.contents ends.new.to) (printed_for heard.reader part) }
 {
     let reader = heard.reader;
     let taken = heard.taken;
@@ -176,7 +182,10 @@ fn converse<C: Clock, R: Read, W: Write>(
     out: &mut [u8],
 ) -> Heard
     requires { answer_room ≤ length out.old }
-    ensures { (result.how ≡ goes_on → ⊥) × ((all : List ℕ) × HeardWhole result all) }
+    ensures heard { (result.how ≡ goes_on → ⊥) × ((all : List ℕ) × HeardWhole result all) }
+    ensures bytes { (all : List ℕ) × HeardWhole result all
+        × Gave (length input.old) result.how (R.remaining ends.old.from) (R.remaining ends.new.from) all
+        × HeardWriting result.how (W.contents ends.old.to) (W.contents ends.new.to) all }
 {
     let mut heard = Heard {
         reader: session::started(),
@@ -198,13 +207,16 @@ fn conclude<C: Clock, R: Read, W: Write>(
     out: &mut [u8],
 ) -> End
     requires { answer_room ≤ length out.old }
-    ensures { Concludes heard.how result.how × ((all : List ℕ) → HeardWhole heard all → Spoken result all) }
+    ensures concludes { Concludes heard.how result.how × ((all : List ℕ) → HeardWhole heard all → Spoken result all) }
+    ensures reader { ends.new.from ≡ ends.old.from }
+    ensures wrote { ConcludesWriting heard.how result.how (W.contents ends.old.to) (W.contents ends.new.to) (printed_at_end heard.reader) }
 {
     let reader = heard.reader;
     let mut how = heard.how;
     let mut taken = heard.taken;
     let mut notes = reader.notes;
-    if how == ENDED {
+    let ended = how == ENDED;
+    if ended {
         let finished = session::finish(reader, out);
         let written = finished.written;
         let took = ends.write_out(&out[..written]);
@@ -230,7 +242,10 @@ fn speak<C: Clock, R: Read, W: Write>(
     out: &mut [u8],
 ) -> End
     requires { answer_room ≤ length out.old }
-    ensures { (result.how ≡ goes_on → ⊥) × ((all : List ℕ) × Spoken result all) }
+    ensures spoken { (result.how ≡ goes_on → ⊥) × ((all : List ℕ) × Spoken result all) }
+    ensures bytes { (all : List ℕ) × Spoken result all
+        × Gave (length input.old) result.how (R.remaining ends.old.from) (R.remaining ends.new.from) all
+        × SpokenWriting result.how (W.contents ends.old.to) (W.contents ends.new.to) all }
 {
     let heard = converse(ends, input, out);
     conclude(ends, heard, out)

@@ -1,5 +1,6 @@
 // Reads and writes that are made again where the system asks for it.
-ghost use Rattle.std.specs.Prelude.{◌≤◌, IfOk, length};
+ghost use Rattle.std.specs.Prelude.{◌≡◌, ◌≤◌, IfOk, length, take};
+ghost use Rattle.std.specs.Io.KnownBytes.{Appends, ReadConsumes};
 ghost use Rattle.talk.specs.Talk.{IsPrefixLen};
 
 use std::io::{ErrorKind, Read, Write};
@@ -46,7 +47,10 @@ impl<'a, C: Clock, R: Read, W: Write> Ends<'a, C, R, W> {
 
     // A part of the input: how many bytes of it are in input now, 0 at its end, or why the read failed.
     pub fn read_part(&mut self, input: &mut [u8]) -> io::Result<usize>
-        ensures { IfOk result (λ n. n ≤ length input.old) }
+        ensures room { IfOk result (λ n. n ≤ length input.old) }
+        ensures same { length input.new ≡ length input.old }
+        ensures writer { self.new.to ≡ self.old.to }
+        ensures bytes { ReadConsumes (R.remaining self.old.from) (R.remaining self.new.from) result input.new }
     {
         for _ in 0..u64::MAX {
             match self.from.read(input) {
@@ -64,7 +68,9 @@ impl<'a, C: Clock, R: Read, W: Write> Ends<'a, C, R, W> {
 
     // Writes the bytes, and answers how many of them were taken: fewer than all only where a write failed.
     pub fn write_out(&mut self, bytes: &[u8]) -> usize
-        ensures { IsPrefixLen result bytes.now }
+        ensures counts { IsPrefixLen result bytes.now }
+        ensures reader { self.new.from ≡ self.old.from }
+        ensures bytes { Appends (W.contents self.old.to) (W.contents self.new.to) (take result bytes.now) }
     {
         let mut taken = 0;
         for _ in 0..u64::MAX {
