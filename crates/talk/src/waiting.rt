@@ -12,7 +12,7 @@ fn pause<C: Clock>(clock: &C) {
     thread::sleep(clock, Duration::from_millis(1));
 }
 
-// Where the input of a session comes from and where its answers go, the clock that waits for either, and why the last read or write that failed did.
+// Where the input of a session comes from and where its answers go, the clock by which either is waited for, and why a read or a write has failed.
 #[derive(Drop)]
 pub struct Ends<'a, C, R, W> {
     clock: &'a C,
@@ -22,7 +22,10 @@ pub struct Ends<'a, C, R, W> {
 }
 
 impl<'a, C: Clock, R: Read, W: Write> Ends<'a, C, R, W> {
-    pub fn new(clock: &'a C, from: R, to: W) -> Ends<'a, C, R, W> {
+    pub fn new(clock: &'a C, from: R, to: W) -> Ends<'a, C, R, W>
+        ensures reader { result.from ≡ from }
+        ensures writer { result.to ≡ to }
+    {
         Ends {
             clock,
             from,
