@@ -3,6 +3,8 @@
 // that has gone has what it wanted: there it says nothing, and its status is 141.
 #![tactic(auto)]
 
+#[cfg(test)]
+mod tests;
 mod waiting;
 
 ghost use Rattle.std.specs.Prelude.{◌≡◌, List, ℕ, ◌≤◌, length, take};
