@@ -1,7 +1,10 @@
 -- What the session program promises. No contract of the system says which bytes a read brings or a write takes: what is said here is said of the
 -- input that was read, whatever it was, and of how many bytes the system has said that it took. Assumes nothing.
-use Rattle.std.specs.Prelude.{Bool, true, false, List, ◌⊎◌, ◌≡◌, ℕ, ◌+◌, ◌<◌, ◌≤◌, eqb, ltb, length, min, take, Result, Ok, Err}
+use Rattle.std.specs.Prelude.{Bool, true, false, List, ◌⊎◌, ◌≡◌, ◌≢◌, ℕ, ◌+◌, ◌<◌, ◌≤◌, eqb, ltb, length, min, take, Result, Ok, Err}
 use Rattle.std.specs.Io.KnownBytes.{Appends, Consumes, IsAtEnd, Keeps}
+use Rattle.std.specs.IoError.{error_kind}
+use Rattle.std.specs.declared.io.Error.{Error}
+use Rattle.std.specs.declared.io.ErrorKind.TheVariants.{Interrupted, WouldBlock}
 use Rattle.std.specs.declared.option.Option.{Option}
 use Rattle.session.specs.declared.Reader.{Reader}
 use Rattle.session.specs.Notes.{counted_to, largest_count, none_yet, notes_of}
@@ -14,6 +17,10 @@ use Rattle.talk.specs.declared.Told.{Told}
 -- so many bytes of a text are at its front, and they are as many
 abbrev pub IsPrefixLen : ℕ → List ℕ → Type 0
 IsPrefixLen n text = (n ≤ length text) × (n ≡ length (take n text))
+
+-- a call that failed so is not to be made again: it was not interrupted, and its end was ready
+abbrev pub IsFinal : Error → Type 0
+IsFinal error = (error_kind error ≢ Interrupted) × (error_kind error ≢ WouldBlock)
 
 -- what a session came to: it goes on, its input has ended, a read has failed, a write has failed, or no number could count the bytes of its input
 abbrev pub goes_on : ℕ

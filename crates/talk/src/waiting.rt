@@ -1,7 +1,7 @@
 // Reads and writes that are made again where the system asks for it.
-ghost use Rattle.std.specs.Prelude.{◌≡◌, ◌≤◌, IfOk, length, take};
+ghost use Rattle.std.specs.Prelude.{◌≡◌, ◌≤◌, ◌<◌, false, IfErr, IfOk, IsSomeAnd, Some, length, take};
 ghost use Rattle.std.specs.Io.KnownBytes.{Appends, ReadConsumes};
-ghost use Rattle.talk.specs.Talk.{IsPrefixLen};
+ghost use Rattle.talk.specs.Talk.{IsFinal, IsPrefixLen};
 
 use std::io::{ErrorKind, Read, Write};
 use std::time::{Clock, Duration};
@@ -34,12 +34,16 @@ impl<'a, C: Clock, R: Read, W: Write> Ends<'a, C, R, W> {
         }
     }
 
-    pub fn failure(&self) -> Option<io::Error> {
+    pub fn failure(&self) -> Option<io::Error>
+        ensures { result ≡ self.now.failure }
+    {
         self.failure
     }
 
     // Whether a call that failed so is to be made again: it was interrupted, or its end was not ready, and then a while has passed.
-    fn again(&self, error: &io::Error) -> bool {
+    fn again(&self, error: &io::Error) -> bool
+        ensures { result ≡ false → IsFinal error.now }
+    {
         let kind = error.kind();
         if kind == ErrorKind::WouldBlock {
             pause(self.clock);
@@ -54,6 +58,7 @@ impl<'a, C: Clock, R: Read, W: Write> Ends<'a, C, R, W> {
         ensures same { length input.new ≡ length input.old }
         ensures writer { self.new.to ≡ self.old.to }
         ensures bytes { ReadConsumes (R.remaining self.old.from) (R.remaining self.new.from) result input.new }
+        ensures failure { IfErr result (λ e. IsFinal e × (self.new.failure ≡ Some e)) }
     {
         for _ in 0..u64::MAX {
             match self.from.read(input) {
@@ -66,7 +71,9 @@ impl<'a, C: Clock, R: Read, W: Write> Ends<'a, C, R, W> {
                 }
             }
         }
-        Err(io::Error::from(ErrorKind::TimedOut))
+        let error = io::Error::from(ErrorKind::TimedOut);
+        self.failure = Some(error);
+        Err(error)
     }
 
     // Writes the bytes, and answers how many of them were taken: fewer than all only where a write failed.
@@ -74,11 +81,12 @@ impl<'a, C: Clock, R: Read, W: Write> Ends<'a, C, R, W> {
         ensures counts { IsPrefixLen result bytes.now }
         ensures reader { self.new.from ≡ self.old.from }
         ensures bytes { Appends (W.contents self.old.to) (W.contents self.new.to) (take result bytes.now) }
+        ensures failure { result < length bytes.now → IsSomeAnd self.new.failure IsFinal }
     {
         let mut taken = 0;
         for _ in 0..u64::MAX {
             if taken >= bytes.len() {
-                break;
+                return taken;
             }
             match self.to.write(&bytes[taken..]) {
                 Ok(0) => pause(self.clock),
@@ -86,11 +94,12 @@ impl<'a, C: Clock, R: Read, W: Write> Ends<'a, C, R, W> {
                 Err(error) => {
                     if !self.again(&error) {
                         self.failure = Some(error);
-                        break;
+                        return taken;
                     }
                 }
             }
         }
+        self.failure = Some(io::Error::from(ErrorKind::TimedOut));
         taken
     }
 }
