@@ -8,6 +8,12 @@ use Rattle.talk.specs.Talk.{ended, goes_on, write_failed}
 use Rattle.talk.proofs.Telling.{heard_bytes, less_to_count}
 use Rattle.talk.proofs.converse.Goals as goal
 
+pub returns : goal.returns
+returns g c = record {
+  heard = (c.loop-heard-test.false, (c.loop-heard.invariant.2.0, c.loop-heard.invariant.2.1));
+  bytes = c.loop-heard.invariant.2;
+}
+
 pub loop-heard-init : goal.loop-heard-init
 unfolding reader_after printed_for
 loop-heard-init g c = (
@@ -37,9 +43,3 @@ loop-heard-preserved g c =
       c.hear-heard.auto.out ∙ at.1,
       rw c.hear-heard.ensures.reader (heard.0, heard.1.0, heard.1.1, heard.1.2),
     )
-
-pub returns : goal.returns
-returns g c = record {
-  heard = (c.loop-heard-test.false, (c.loop-heard.invariant.2.0, c.loop-heard.invariant.2.1));
-  bytes = c.loop-heard.invariant.2;
-}

@@ -10,6 +10,15 @@ use Rattle.talk.proofs.Telling.{left_used, tells_all, tells_cut, tells_more, tel
 use Rattle.talk.proofs.Writing.{wrote_cut, wrote_whole}
 use Rattle.talk.proofs.tell.Goals as goal
 
+pub returns : goal.returns
+returns g c =
+    let at = c.loop-from.invariant in
+    record {
+      answers = (λ whole. tells_all _ _ _ _ _ _ at.0 c.loop-from-test.false, λ cut. absurd (false≢true (sym cut)));
+      reader = at.2;
+      wrote = whole_wrote _ _ _ _ _ _ at.0 _ _ c.loop-from-test.false at.3;
+    }
+
 pub loop-from-init : goal.loop-from-init
 loop-from-init g c = (tells_none _ _ _ (omega arith), refl, refl, wrote_none c.args.reader c.args.part.now _)
 
@@ -48,12 +57,3 @@ loop-from-preserved g c =
       c.write_out-took.ensures.reader ∙ at.2,
       tells_wrote _ _ _ _ _ _ at.0 _ _ _ fed.0 fed.2 _ _ _ at.3 wrote,
     )
-
-pub returns : goal.returns
-returns g c =
-    let at = c.loop-from.invariant in
-    record {
-      answers = (λ whole. tells_all _ _ _ _ _ _ at.0 c.loop-from-test.false, λ cut. absurd (false≢true (sym cut)));
-      reader = at.2;
-      wrote = whole_wrote _ _ _ _ _ _ at.0 _ _ c.loop-from-test.false at.3;
-    }
