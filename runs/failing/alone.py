@@ -7,10 +7,10 @@ from pathlib import Path
 
 from .running import ENVIRONMENT, SESSION, complete, failed, hold, run, same, start, until
 
-# rt doc names a file of the toolchain; rt check takes all the input that it can get, and then does what the test says.
+# rt doc names a file of the toolchain; rt run takes all the input that it can get, and then does what the test says.
 TOOLCHAIN = """case $1 in
-    doc) echo "$KIT/docs/START" ;;
-    check) cat >"$KIT/taken" && eval "$BUILD" ;;
+    doc) echo "$KIT/START" ;;
+    run) cat >"$KIT/taken" && eval "$BUILD" ;;
 esac"""
 EMULATOR = """shift 3
 exec "$@" """
@@ -33,6 +33,11 @@ class Alone:
     def program(self):
         return self.root / "target/bin/talk"
 
+    @property
+    def built(self):
+        """What the toolchain has built, proved or not."""
+        return self.root / "crates/talk/out/talk"
+
 
 def script(path, text):
     path.parent.mkdir(parents=True, exist_ok=True)
@@ -42,13 +47,14 @@ def script(path, text):
 
 def alone(work, program=None, machine="x86_64"):
     root, kit, tools = work / "root", work / "kit", work / "tools"
-    for source in (root / "crates/source", root / "crates.txt"):
+    kit.mkdir(parents=True, exist_ok=True)
+    for source in (root / "crates/talk/source", root / "crates.txt"):
         source.parent.mkdir(parents=True, exist_ok=True)
         source.write_text("")
     shutil.copy(SESSION, root)
     script(tools / "rt", TOOLCHAIN)
     script(tools / "uname", f"echo {machine}")
-    script(kit / f"on/{machine}/toolchain/bin/qemu-x86_64", EMULATOR)
+    script(tools / "qemu-x86_64", EMULATOR)
     found = Alone(root, kit, {**ENVIRONMENT, "KIT": str(kit), "BUILD": "false", "PATH": f"{tools}:{os.environ['PATH']}"})
     if program:
         script(found.program, program)
@@ -57,7 +63,7 @@ def alone(work, program=None, machine="x86_64"):
 
 def writing(program):
     """A build that writes this program."""
-    return f"mkdir -p target/bin && printf '#!/bin/sh\\n{program}\\n' >target/bin/talk && chmod +x target/bin/talk"
+    return f"mkdir -p out && printf '#!/bin/sh\\n{program}\\n' >out/talk && chmod +x out/talk"
 
 
 def test_an_end_without_a_report(work):
@@ -111,7 +117,9 @@ def test_a_build_that_fails(work):
 def test_sources_that_are_newer(work):
     """They are built once: also where the program is what they say already, and is not written again."""
     standing = alone(work, ECHO)
-    os.utime(standing.program, (1, 1))
+    for program in (standing.program, standing.built):
+        script(program, ECHO)
+        os.utime(program, (1, 1))
     failed(standing.run(b"c 0\n", BUILD="false"), "the program could not be built")
     for count in (1, 0):
         ended = standing.run(b"c 0\n", BUILD="true")
@@ -120,15 +128,15 @@ def test_sources_that_are_newer(work):
 
 
 def test_a_program_that_was_not_checked(work):
-    """It is linked before it is checked: where the check fails, or is broken off, it is never run."""
+    """Where it is linked, and the check fails or is broken off, it is never run."""
     standing = alone(work)
     wrong = writing("echo wrong")
     failed(standing.run(b"c 0\n", BUILD=f"{wrong}; false"), "the program could not be built")
-    hold(os.access(standing.program, os.X_OK), "the stand-in has written no program")
+    hold(os.access(standing.built, os.X_OK), "the stand-in has written no program")
     failed(standing.run(b"c 0\n", BUILD="false"), "the program could not be built")
-    standing.program.unlink()
+    standing.built.unlink()
     broken = start(program=standing.root / "session", env={**standing.environment, "BUILD": f"{wrong}; sleep 1"})
-    until(lambda: os.access(standing.program, os.X_OK))
+    until(lambda: os.access(standing.built, os.X_OK))
     broken.kill()
     broken.wait()
     failed(standing.run(b"c 0\n", BUILD="false"), "the program could not be built")
@@ -138,7 +146,7 @@ def test_a_program_that_was_not_checked(work):
 
 def test_a_source_that_is_saved_amid_a_build(work):
     standing = alone(work)
-    source = standing.root / "crates/source"
+    source = standing.root / "crates/talk/source"
     complete(standing.run(BUILD=f"sleep 0.1; echo >{source}; {writing(ECHO)}"))
     hold("proving and building" in standing.run(BUILD="true").said, "it does not build what was saved amid the last build")
     hold(standing.run().said == "", "it builds what it has built")
@@ -173,10 +181,10 @@ def test_no_setpriv(work):
 
 
 def test_another_processor(work):
-    """The toolchain's emulator runs the program, and passes on how it ended."""
+    """An emulator runs the program, and passes on how it ended."""
     standing = alone(work, ECHO, machine="other")
     same(complete(standing.run(b"c 0\n")), b"c 0\n", "the answers under the emulator")
     script(standing.program, "kill -9 $$")
     failed(standing.run(), "ended by a signal (KILL)", status=137)
-    shutil.rmtree(standing.kit)
-    failed(standing.run(), "no emulator for this processor, other", status=2)
+    (work / "tools/qemu-x86_64").unlink()
+    failed(standing.run(PATH=f"{work / 'tools'}:{bare(work, 'other')}"), "no emulator for this processor, other", status=2)

@@ -1,16 +1,25 @@
 // The session program: standard input in parts, as they come, and the answers to each part to standard output. At a complete end it says so on
-// descriptor 3; where a read or a write has failed, it says that on standard error.
+// descriptor 3, and its status is 0; where a read or a write has failed, it says that on standard error, and its status is 1. A reader of the answers
+// that has gone has what it wanted: there it says nothing, and its status is 141.
 #![tactic(auto)]
 
+#[cfg(test)]
+mod tests;
 mod waiting;
 
-ghost use Rattle.std.specs.Prelude.{◌≡◌, List, ℕ, ◌≤◌, length};
+ghost use Rattle.std.specs.Prelude.{◌≡◌, List, ℕ, ◌≤◌, length, take};
 ghost use Rattle.text.specs.Text.{answer_room};
-ghost use Rattle.talk.specs.Talk.{Answers, Concludes, HeardWhole, Hears, Spoken, goes_on};
+ghost use Rattle.session.specs.Stream.{printed_at_end, printed_for};
+ghost use Rattle.talk.specs.Talk.{Answers, Concludes, ConcludesWriting, Gave, HeardWhole, HeardWriting, Hears, HearsWriting, Spoken, SpokenWriting, Wrote, clamp_len, goes_on, is_zero};
 
-use libc::{STDERR_FILENO, STDOUT_FILENO};
 use session::{Notes, Reader};
-use waiting::{read_part, write_out};
+use std::fs::OpenOptions;
+use std::io;
+use std::io::{ErrorKind, Read, Write};
+use std::process::ExitCode;
+use std::rt::Files;
+use std::time::Clock;
+use waiting::Ends;
 
 // What a session came to.
 const GOES_ON: u32 = 0;
@@ -23,8 +32,11 @@ const WRITE_FAILED: u32 = 3;
 
 const TOO_MUCH: u32 = 4;
 
-// Where the report of a complete end goes.
-const REPORT: i32 = 3;
+// Where the report of a complete end goes: descriptor 3.
+const REPORT: &str = "/dev/fd/3";
+
+// The status of a program that the signal of a broken pipe, 13, has ended. The signal itself is ignored here, and the write fails.
+const READER_GONE: u8 = 141;
 
 // The reader after a part, how many bytes of answers were taken up to its end, and whether all of its own were.
 #[derive(Clone, Copy)]
@@ -54,9 +66,17 @@ struct End {
 
 // Answers one part of the input. What the answers to a piece of it leave of out may be too little for the next answer: so each piece's answers are
 // written away before the rest of the part is fed.
-fn tell(reader: Reader, taken: u64, part: &[u8], out: &mut [u8]) -> Told
+fn tell<C: Clock, R: Read, W: Write>(
+    ends: &mut Ends<'_, C, R, W>,
+    reader: Reader,
+    taken: u64,
+    part: &[u8],
+    out: &mut [u8],
+) -> Told
     requires { answer_room ≤ length out.old }
-    ensures { Answers reader taken part.now result }
+    ensures answers { Answers reader taken part.now result }
+    ensures reader { ends.new.from ≡ ends.old.from }
+    ensures wrote { Wrote result.whole (W.contents ends.old.to) (W.contents ends.new.to) (printed_for reader part.now) }
 {
     let mut now = reader;
     let mut so_far = taken;
@@ -67,7 +87,7 @@ fn tell(reader: Reader, taken: u64, part: &[u8], out: &mut [u8]) -> Told
         now = next;
         from += fed.used;
         let written = fed.written;
-        let took = write_out(STDOUT_FILENO, &out[..written]);
+        let took = ends.write_out(&out[..written]);
         so_far = session::counted(so_far, took);
         if took < written {
             return Told {
@@ -84,15 +104,44 @@ fn tell(reader: Reader, taken: u64, part: &[u8], out: &mut [u8]) -> Told
     }
 }
 
+// Whether a read has answered the end of the input.
+fn is_end(got: io::Result<usize>) -> bool
+    ensures { result ≡ is_zero got }
+{
+    match got {
+        Ok(count) => count == 0,
+        Err(_) => false,
+    }
+}
+
+// How many bytes a read has brought, of at most so many.
+fn came(got: io::Result<usize>, most: usize) -> usize
+    ensures { result ≡ clamp_len got most }
+{
+    match got {
+        Ok(count) => count.min(most),
+        Err(_) => 0,
+    }
+}
+
 // Hears what a read has answered: the end of the input, a failure, or a part, which is at the front of input.
-fn hear(heard: Heard, got: isize, input: &[u8], out: &mut [u8]) -> Heard
+fn hear<C: Clock, R: Read, W: Write>(
+    ends: &mut Ends<'_, C, R, W>,
+    heard: Heard,
+    got: io::Result<usize>,
+    input: &[u8],
+    out: &mut [u8],
+) -> Heard
     requires { answer_room ≤ length out.old }
-    ensures { Hears heard got input.now result }
+    ensures hears { Hears heard got input.now result }
+    ensures reader { ends.new.from ≡ ends.old.from }
+    ensures wrote { let part = take (clamp_len got (length input.now)) input.now in
+        HearsWriting result.how (W.contents ends.old.to) (W.contents ends.new.to) (printed_for heard.reader part) }
 {
     let reader = heard.reader;
     let taken = heard.taken;
     let bytes = heard.bytes;
-    if got == 0 {
+    if is_end(got) {
         return Heard {
             reader,
             taken,
@@ -100,7 +149,7 @@ fn hear(heard: Heard, got: isize, input: &[u8], out: &mut [u8]) -> Heard
             how: ENDED,
         };
     }
-    let count = io::count(got, input);
+    let count = came(got, input.len());
     if count == 0 {
         return Heard {
             reader,
@@ -117,7 +166,7 @@ fn hear(heard: Heard, got: isize, input: &[u8], out: &mut [u8]) -> Heard
             how: TOO_MUCH,
         };
     }
-    let told = tell(reader, taken, &input[..count], out);
+    let told = tell(ends, reader, taken, &input[..count], out);
     let next = told.reader;
     let how = if told.whole { GOES_ON } else { WRITE_FAILED };
     Heard {
@@ -129,9 +178,16 @@ fn hear(heard: Heard, got: isize, input: &[u8], out: &mut [u8]) -> Heard
 }
 
 // Reads and answers, part by part, as long as the session goes on. Every program here ends: this one where no number could count its bytes.
-fn converse(input: &mut [u8], out: &mut [u8]) -> Heard
+fn converse<C: Clock, R: Read, W: Write>(
+    ends: &mut Ends<'_, C, R, W>,
+    input: &mut [u8],
+    out: &mut [u8],
+) -> Heard
     requires { answer_room ≤ length out.old }
-    ensures { (result.how ≡ goes_on → ⊥) × ((all : List ℕ) × HeardWhole result all) }
+    ensures heard { (result.how ≡ goes_on → ⊥) × ((all : List ℕ) × HeardWhole result all) }
+    ensures bytes { (all : List ℕ) × HeardWhole result all
+        × Gave (length input.old) result.how (R.remaining ends.old.from) (R.remaining ends.new.from) all
+        × HeardWriting result.how (W.contents ends.old.to) (W.contents ends.new.to) all }
 {
     let mut heard = Heard {
         reader: session::started(),
@@ -140,25 +196,32 @@ fn converse(input: &mut [u8], out: &mut [u8]) -> Heard
         how: GOES_ON,
     };
     while heard.how == GOES_ON {
-        let got = read_part(input);
-        heard = hear(heard, got, input, out);
+        let got = ends.read_part(input);
+        heard = hear(ends, heard, got, input, out);
     }
     heard
 }
 
 // The end of an input that was heard. Where it has ended, a last line that lacks its newline is answered; else what is held of a line is never run.
-fn conclude(heard: Heard, out: &mut [u8]) -> End
+fn conclude<C: Clock, R: Read, W: Write>(
+    ends: &mut Ends<'_, C, R, W>,
+    heard: Heard,
+    out: &mut [u8],
+) -> End
     requires { answer_room ≤ length out.old }
-    ensures { Concludes heard.how result.how × ((all : List ℕ) → HeardWhole heard all → Spoken result all) }
+    ensures concludes { Concludes heard.how result.how × ((all : List ℕ) → HeardWhole heard all → Spoken result all) }
+    ensures reader { ends.new.from ≡ ends.old.from }
+    ensures wrote { ConcludesWriting heard.how result.how (W.contents ends.old.to) (W.contents ends.new.to) (printed_at_end heard.reader) }
 {
     let reader = heard.reader;
     let mut how = heard.how;
     let mut taken = heard.taken;
     let mut notes = reader.notes;
-    if how == ENDED {
+    let ended = how == ENDED;
+    if ended {
         let finished = session::finish(reader, out);
         let written = finished.written;
-        let took = write_out(STDOUT_FILENO, &out[..written]);
+        let took = ends.write_out(&out[..written]);
         taken = session::counted(taken, took);
         let noted = finished.notes;
         notes = noted;
@@ -175,41 +238,64 @@ fn conclude(heard: Heard, out: &mut [u8]) -> End
 }
 
 // A whole session.
-fn speak(input: &mut [u8], out: &mut [u8]) -> End
+fn speak<C: Clock, R: Read, W: Write>(
+    ends: &mut Ends<'_, C, R, W>,
+    input: &mut [u8],
+    out: &mut [u8],
+) -> End
     requires { answer_room ≤ length out.old }
-    ensures { (result.how ≡ goes_on → ⊥) × ((all : List ℕ) × Spoken result all) }
+    ensures spoken { (result.how ≡ goes_on → ⊥) × ((all : List ℕ) × Spoken result all) }
+    ensures bytes { (all : List ℕ) × Spoken result all
+        × Gave (length input.old) result.how (R.remaining ends.old.from) (R.remaining ends.new.from) all
+        × SpokenWriting result.how (W.contents ends.old.to) (W.contents ends.new.to) all }
 {
-    let heard = converse(input, out);
-    conclude(heard, out)
+    let heard = converse(ends, input, out);
+    conclude(ends, heard, out)
 }
 
 // A complete end, in one line: why the first unreadable line is not readable, how many are not, how many lines there were, and the number of the first.
-fn report(notes: Notes) {
-    io::print_decimal(REPORT, notes.fault as u64);
-    io::write_all(REPORT, b" ");
-    io::print_decimal(REPORT, notes.unreadable);
-    io::write_all(REPORT, b" ");
-    io::print_decimal(REPORT, notes.lines);
-    io::write_all(REPORT, b" ");
-    io::print_decimal(REPORT, notes.first);
-    io::write_all(REPORT, b"\n");
+fn report<R: Files>(rt: &R, notes: Notes) -> io::Result<()> {
+    let mut to = OpenOptions::new().append(true).open(rt, REPORT)?;
+    let fault = notes.fault;
+    let unreadable = notes.unreadable;
+    let lines = notes.lines;
+    let first = notes.first;
+    writeln!(to, "{fault} {unreadable} {lines} {first}")
 }
 
-fn main() {
+// Whether a write failed since nobody reads the answers any more.
+fn is_reader_gone(how: u32, failure: Option<io::Error>) -> bool {
+    match failure {
+        Some(error) => how == WRITE_FAILED && error.kind() == ErrorKind::BrokenPipe,
+        None => false,
+    }
+}
+
+fn main(rt: HostRuntime) -> ExitCode {
+    let mut ends = Ends::new(&rt, rt.stdin(), rt.stdout());
     let mut input = [0u8; 65536];
     let mut out = [0u8; 65536];
-    let end = speak(&mut input, &mut out);
+    let end = speak(&mut ends, &mut input, &mut out);
+    let failure = ends.failure();
     if end.how == ENDED {
-        let notes = end.notes;
-        report(notes);
-    } else if end.how == READ_FAILED {
-        os::fail(b"session: standard input could not be read");
-    } else if end.how == WRITE_FAILED {
-        os::fail(b"session: the answers could not be written");
-    } else {
-        io::write_all(
-            STDERR_FILENO,
-            b"session: the input has more bytes than can be counted\n",
-        );
+        // Where descriptor 3 is not open, nobody asks for the report.
+        let _ = report(&rt, end.notes);
+        return ExitCode::SUCCESS;
     }
+    if is_reader_gone(end.how, failure) {
+        return ExitCode::from(READER_GONE);
+    }
+    let what = if end.how == READ_FAILED {
+        "standard input could not be read"
+    } else if end.how == WRITE_FAILED {
+        "the answers could not be written"
+    } else {
+        "the input has more bytes than can be counted"
+    };
+    // A sentence that cannot be shown changes nothing.
+    let _ = match failure {
+        Some(why) => eprintln!(rt; "session: {what}: {why}"),
+        None => eprintln!(rt; "session: {what}"),
+    };
+    ExitCode::FAILURE
 }
