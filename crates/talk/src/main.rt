@@ -7,10 +7,12 @@
 mod tests;
 mod waiting;
 
-ghost use Rattle.std.specs.Prelude.{◌≡◌, List, ℕ, ◌≤◌, length, take};
+ghost use Rattle.std.specs.Prelude.{◌≡◌, ◌↔◌, true, IsSomeAnd, List, ℕ, ◌≤◌, length, take};
+ghost use Rattle.std.specs.IoError.{error_kind};
+ghost use Rattle.std.specs.declared.io.ErrorKind.TheVariants.{BrokenPipe};
 ghost use Rattle.text.specs.Text.{answer_room};
 ghost use Rattle.session.specs.Stream.{printed_at_end, printed_for};
-ghost use Rattle.talk.specs.Talk.{Answers, Concludes, ConcludesWriting, Gave, HeardWhole, HeardWriting, Hears, HearsWriting, Spoken, SpokenWriting, Wrote, clamp_len, goes_on, is_zero};
+ghost use Rattle.talk.specs.Talk.{Answers, Concludes, ConcludesWriting, Gave, HeardWhole, HeardWriting, Hears, HearsWriting, Spoken, SpokenWriting, Wrote, clamp_len, goes_on, is_zero, write_failed};
 
 use session::{Notes, Reader};
 use std::fs::OpenOptions;
@@ -264,7 +266,9 @@ fn report<R: Files>(rt: &R, notes: Notes) -> io::Result<()> {
 }
 
 // Whether a write failed since nobody reads the answers any more.
-fn is_reader_gone(how: u32, failure: Option<io::Error>) -> bool {
+fn is_reader_gone(how: u32, failure: Option<io::Error>) -> bool
+    ensures { result ≡ true ↔ ((how ≡ write_failed) × IsSomeAnd failure (λ e. error_kind e ≡ BrokenPipe)) }
+{
     match failure {
         Some(error) => how == WRITE_FAILED && error.kind() == ErrorKind::BrokenPipe,
         None => false,

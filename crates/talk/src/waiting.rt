@@ -1,5 +1,5 @@
 // Reads and writes that are made again where the system asks for it.
-ghost use Rattle.std.specs.Prelude.{◌≡◌, ◌≤◌, ◌<◌, false, IfErr, IfOk, IsSomeAnd, Some, length, take};
+ghost use Rattle.std.specs.Prelude.{◌≡◌, ◌↔◌, ◌≤◌, ◌<◌, false, IfErr, IfOk, IsSomeAnd, Some, length, take};
 ghost use Rattle.std.specs.Io.KnownBytes.{Appends, ReadConsumes};
 ghost use Rattle.talk.specs.Talk.{IsFinal, IsPrefixLen};
 
@@ -42,7 +42,7 @@ impl<'a, C: Clock, R: Read, W: Write> Ends<'a, C, R, W> {
 
     // Whether a call that failed so is to be made again: it was interrupted, or its end was not ready, and then a while has passed.
     fn again(&self, error: &io::Error) -> bool
-        ensures { result ≡ false → IsFinal error.now }
+        ensures { result ≡ false ↔ IsFinal error.now }
     {
         let kind = error.kind();
         if kind == ErrorKind::WouldBlock {
