@@ -15,12 +15,13 @@ ghost use Rattle.session.specs.Stream.{printed_at_end, printed_for};
 ghost use Rattle.talk.specs.Talk.{Answers, Concludes, ConcludesWriting, Gave, HeardWhole, HeardWriting, Hears, HearsWriting, Spoken, SpokenWriting, Wrote, clamp_len, goes_on, is_zero, write_failed};
 
 use session::{Notes, Reader};
+use std::alloc::Alloc;
 use std::fs::OpenOptions;
-use std::io;
 use std::io::{ErrorKind, Read, Write};
 use std::process::ExitCode;
 use std::rt::Files;
 use std::time::Clock;
+use std::{fs, io};
 use waiting::Ends;
 
 // What a session came to.
@@ -34,8 +35,10 @@ const WRITE_FAILED: u32 = 3;
 
 const TOO_MUCH: u32 = 4;
 
-// Where the report of a complete end goes: descriptor 3.
+// Where the report of a complete end goes: descriptor 3; and what the system tells of it.
 const REPORT: &str = "/dev/fd/3";
+
+const ABOUT_REPORT: &str = "/proc/self/fdinfo/3";
 
 // The status of a program that the signal of a broken pipe, 13, has ended. The signal itself is ignored here, and the write fails.
 const READER_GONE: u8 = 141;
@@ -255,9 +258,26 @@ fn speak<C: Clock, R: Read, W: Write>(
     conclude(ends, heard, out)
 }
 
+// Whether descriptor 3 is open for writing. The system tells how it was opened in a line in octal, of whose last digit the lower two bits are 0 where it
+// is for reading alone.
+fn is_report_wanted<R: Files + Alloc>(rt: &R) -> io::Result<bool> {
+    let about = fs::read_to_string(rt, ABOUT_REPORT)?;
+    for line in about.lines() {
+        if line.starts_with("flags:") {
+            return Ok(!line.ends_with('0') && !line.ends_with('4'));
+        }
+    }
+    Ok(false)
+}
+
 // A complete end, in one line: why the first unreadable line is not readable, how many are not, how many lines there were, and the number of the first.
-fn report<R: Files>(rt: &R, notes: Notes) -> io::Result<()> {
-    let mut to = OpenOptions::new().append(true).open(rt, REPORT)?;
+// std opens anew what descriptor 3 leads to: so where that is for reading alone it is left as it is, and it is opened for both, since a pipe that nobody
+// reads any more would else be waited for.
+fn report<R: Files + Alloc>(rt: &R, notes: Notes) -> io::Result<()> {
+    if !is_report_wanted(rt)? {
+        return Ok(());
+    }
+    let mut to = OpenOptions::new().read(true).append(true).open(rt, REPORT)?;
     let fault = notes.fault;
     let unreadable = notes.unreadable;
     let lines = notes.lines;
