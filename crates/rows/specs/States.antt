@@ -1,5 +1,5 @@
 -- Document 01, "What a connection has seen": the four states of a timestamp on an input connection. Assumes nothing.
-use Rattle.std.specs.Prelude.{Bool, true, false, cond, ℕ, leb, ltb}
+use Rattle.std.specs.Prelude.{Bool, true, false, cond, ℕ, leb, ltb, Option, Some, None}
 use Rattle.rows.specs.declared.Connection.{Connection}
 use Rattle.rows.specs.Numbers.{item_places}
 use Rattle.calls.specs.declared.State.{State}
@@ -20,3 +20,8 @@ state_of connection timestamp place =
     cond (ltb timestamp connection.mark) Consumed
     (cond (leb item_places place) Absent
     (by_name (has connection.opened place) (has connection.consumed place)))
+
+-- the place of the channel's item as the code hands it on: a place, or none; the number of places is none
+abbrev pub place_or_none : Option ℕ → ℕ
+place_or_none (Some place) = place
+place_or_none None = item_places

@@ -1,5 +1,6 @@
 -- A number as a set of places: place p is in it where its binary digit p is 1. Assumes nothing.
-use Rattle.std.specs.Prelude.{Bool, ◌&&◌, ◌||◌, not, ℕ, ◌/◌, ◌%◌, ◌^◌, eqb}
+use Rattle.std.specs.Prelude.{Bool, ◌&&◌, ◌||◌, not, ◌≡◌, ℕ, ◌/◌, ◌%◌, ◌^◌, ◌≤◌, ◌<◌, eqb, min, Option, Some, None}
+use Rattle.words.specs.declared.PlaceWalk.{PlaceWalk}
 use Rattle.words.specs.Places.{count_of, lowest_of, word_of}
 
 -- a word has the places 0 to 63
@@ -41,3 +42,10 @@ lowest_free w = lowest_of (λ i. not (has w i)) word_places
 -- how many places are in the word
 unfoldable pub count : ℕ → ℕ
 count w = count_of (has w) word_places
+
+-- one step of a walk over the places of a word that are below an end, lowest first: the lowest place and the walk without it, or nothing where no place
+-- below the end is left
+abbrev pub walks : PlaceWalk → Option ℕ → PlaceWalk → Type 0
+walks walk None after = (min walk.end word_places ≤ lowest walk.rest) × (after ≡ walk)
+walks walk (Some place) after =
+    (place ≡ lowest walk.rest) × (place < min walk.end word_places) × (after ≡ record { rest = without walk.rest place; end = walk.end })

@@ -2,7 +2,8 @@
 #![tactic(auto)]
 
 ghost use Rattle.std.specs.Prelude.{◌≡◌, cond};
-ghost use Rattle.words.specs.Words.{has, with, without, both, either, except, lowest, lowest_free, count};
+ghost use Rattle.std.specs.Iterator.{at_most};
+ghost use Rattle.words.specs.Words.{has, with, without, both, either, except, lowest, lowest_free, count, walks};
 
 // A word has the places 0 to 63.
 const PLACES: u32 = 64;
@@ -87,4 +88,35 @@ pub fn count(word: u64) -> u32
     ensures { result ≡ count word }
 {
     u64::count_ones(word)
+}
+
+// A walk over the places of a word that are below an end, lowest first.
+#[derive(Clone, Copy)]
+pub struct PlaceWalk {
+    pub rest: u64,
+    pub end: usize,
+}
+
+// The places of the word that are below the end.
+pub fn places(word: u64, end: usize) -> PlaceWalk
+    ensures { (result.rest ≡ word) × (result.end ≡ end) }
+{
+    PlaceWalk { rest: word, end }
+}
+
+impl Iterator for PlaceWalk {
+    type Item = u32;
+
+    ghost next_gives = { walks };
+
+    ghost remaining = { λ walk. at_most (count walk.rest) };
+
+    fn next(&mut self) -> Option<u32> {
+        let place = lowest(self.rest);
+        if place >= PLACES || place as usize >= self.end {
+            return None;
+        }
+        self.rest = without(self.rest, place);
+        Some(place)
+    }
 }
