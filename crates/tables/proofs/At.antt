@@ -13,17 +13,17 @@ use borrow.Author.Tests.{le-ltb, lt-ltb}
 use Rattle.words.specs.Words.{has}
 use Rattle.words.proofs.Digits.{has_none}
 use Rattle.words.proofs.YesOrNo.{bool_cases, not_then, true_not_false}
-use Rattle.tables.specs.Columns.{at, set_at}
+use Rattle.tables.specs.Columns.{at, set_at, reads}
 
 -- ---- what is read
 
 module _ (places : ℕ) (column : List ℕ) where
   pub at_inside : {place : ℕ} → place < places → at places column place ≡ get_or column place 0
-  unfolding at
+  unfolding reads
   at_inside {place} below = ap (λ (b : Bool). cond b (get_or column place 0) 0) (lt-ltb place places below)
 
   pub at-past : {place : ℕ} → places ≤ place → at places column place ≡ 0
-  unfolding at
+  unfolding reads
   at-past {place} past = ap (λ (b : Bool). cond b (get_or column place 0) 0) (le-ltb place places past)
 
   -- a word with a place in it stands in one of the column's places
@@ -39,7 +39,7 @@ all_zeros (suc n) zero = refl
 all_zeros (suc n) (suc place) = all_zeros n place
 
 pub at-zeros : (places n place : ℕ) → at places (replicate n 0) place ≡ 0
-unfolding at
+unfolding reads
 at-zeros places n place = bool_cases (ltb place places) (λ e. rw e (all_zeros n place)) (λ e. rw e)
 
 -- ---- another number in one place
@@ -53,7 +53,7 @@ module _ (places : ℕ) (column : List ℕ) (place number : ℕ) where
   at_set_same below sized = at_inside places (set column place number) below ∙ get_or-set_same column place number 0 (omega arith)
 
   pub at_set_other : (other : ℕ) → other ≢ place → at places (set column place number) other ≡ at places column other
-  unfolding at
+  unfolding reads
   at_set_other other apart = ap (λ (x : ℕ). cond (ltb other places) x 0) (get_or-set_other column place other number 0 apart)
 
   -- what holds of the new number and of the others holds of all

@@ -12,10 +12,10 @@ use Rattle.words.proofs.Laws.{except-at}
 use Rattle.words.proofs.Walk.{and_this, each_ext, each_keeps}
 use Rattle.words.proofs.YesOrNo.{and_both, and_left, and_right, not_then, true_not_false}
 use Rattle.calls.specs.declared.Which.{Which}
-use Rattle.rows.specs.Choices.{preferred, taken_before}
+use Rattle.std.proofs.Common.{Option, Some, None}
+use Rattle.rows.specs.Choices.{found_at, preferred, taken_before}
 use Rattle.rows.specs.declared.Connection.{Connection}
 use Rattle.rows.specs.declared.Found.{Found}
-use Rattle.rows.specs.declared.Found.TheVariants.{At, Nothing}
 use Rattle.rows.proofs.Orders.{taken_irreflexive, taken_transitive}
 use Rattle.rows.proofs.Seen.{unseen_is}
 use Rattle.tables.specs.Columns.{at, item_places}
@@ -31,18 +31,21 @@ module _ (timestamps : List ℕ) (better : ℕ → ℕ → Bool) (test : ℕ →
 
   -- once the places below n are looked at: what was found stands in one that passes, and none that passes is better; nothing was found where none
   -- passes
-  abbrev Best : ℕ → Found → Type 0
-  Best n (At place timestamp) =
-      (place < n) × (test place ≡ true) × (timestamp ≡ at item_places timestamps place) × ((other : ℕ) → other < n → NoBetter timestamp other)
-  Best n Nothing = (other : ℕ) → other < n → test other ≡ false
+  abbrev Best : ℕ → Option Found → Type 0
+  Best n (Some found) =
+      (found.place < n)
+      × (test found.place ≡ true)
+      × (found.timestamp ≡ at item_places timestamps found.place)
+      × ((other : ℕ) → other < n → NoBetter found.timestamp other)
+  Best n None = (other : ℕ) → other < n → test other ≡ false
 
-  best_taken : (n : ℕ) (found : Found) → test n ≡ true → Best n found → Best (suc n) (preferred better found n (at item_places timestamps n))
-  best_taken n (At place timestamp) passes (below, its, is, best) = go (better winner timestamp) refl
+  best_taken : (n : ℕ) (found : Option Found) → test n ≡ true → Best n found → Best (suc n) (preferred better found n (at item_places timestamps n))
+  best_taken n (Some before) passes (below, its, is, best) = go (better winner before.timestamp) refl
     where
       winner : ℕ
       winner = at item_places timestamps n
 
-      go : (wins : Bool) → better winner timestamp ≡ wins → Best (suc n) (cond wins (At n winner) (At place timestamp))
+      go : (wins : Bool) → better winner before.timestamp ≡ wins → Best (suc n) (cond wins (Some (found_at n winner)) (Some before))
       go true e = (
         le_refl (suc n),
         passes,
@@ -50,8 +53,8 @@ module _ (timestamps : List ℕ) (better : ℕ → ℕ → Bool) (test : ℕ →
         and_this (NoBetter winner) (λ _. irreflexive winner)
             (λ other below holds. not_then (λ beaten. transitive _ _ _ beaten e) (best other below holds)),
       )
-      go false e = (omega arith, its, is, and_this (NoBetter timestamp) (λ _. e) best)
-  best_taken n Nothing passes none = (
+      go false e = (omega arith, its, is, and_this (NoBetter before.timestamp) (λ _. e) best)
+  best_taken n None passes none = (
     le_refl (suc n),
     passes,
     refl,
@@ -59,14 +62,14 @@ module _ (timestamps : List ℕ) (better : ℕ → ℕ → Bool) (test : ℕ →
         (λ other below holds. absurd (true_not_false holds (none other below))),
   )
 
-  best_kept : (n : ℕ) (found : Found) → test n ≡ false → Best n found → Best (suc n) found
-  best_kept n (At place timestamp) fails (below, its, is, best) =
-      (omega arith, its, is, and_this (NoBetter timestamp) (λ holds. absurd (true_not_false holds fails)) best)
-  best_kept n Nothing fails none = and_this (λ other. test other ≡ false) fails none
+  best_kept : (n : ℕ) (found : Option Found) → test n ≡ false → Best n found → Best (suc n) found
+  best_kept n (Some before) fails (below, its, is, best) =
+      (omega arith, its, is, and_this (NoBetter before.timestamp) (λ holds. absurd (true_not_false holds fails)) best)
+  best_kept n None fails none = and_this (λ other. test other ≡ false) fails none
 
-  pub chosen_is : (found : Found) → chosen timestamps better test ≡ found → Best item_places found
+  pub chosen_is : (found : Option Found) → chosen timestamps better test ≡ found → Best item_places found
   unfolding chosen
-  chosen_is found e = subst (Best item_places) e (each_keeps Best test _ Nothing (λ other below. absurd (not-suc-le-zero below)) best_taken best_kept item_places)
+  chosen_is found e = subst (Best item_places) e (each_keeps Best test _ None (λ other below. absurd (not-suc-le-zero below)) best_taken best_kept item_places)
 
 -- ---- what a get finds
 
@@ -82,7 +85,7 @@ module _ (timestamps : List ℕ) (connection : Connection) (which : Which) where
   pub sought_from : chosen_from timestamps (except (except connection.items connection.opened) connection.consumed) connection.mark which
       ≡ sought timestamps connection which
   unfolding chosen_from sought chosen is_unseen_at
-  sought_from = each_ext item_places _ _ Nothing _ _ same (λ p found inside. refl)
+  sought_from = each_ext item_places _ _ None _ _ same (λ p found inside. refl)
     where
       same : (p : ℕ) → p < item_places
           → (has (except (except connection.items connection.opened) connection.consumed) p
@@ -110,10 +113,10 @@ module _ (timestamps : List ℕ) (connection : Connection) (which : Which) where
   abbrev fits : ℕ → Bool
   fits place = is_unseen_at timestamps connection place && is_wanted which (at item_places timestamps place)
 
-  pub sought-found : (place timestamp : ℕ) → sought timestamps connection which ≡ At place timestamp → Sought place timestamp
+  pub sought-found : (place timestamp : ℕ) → sought timestamps connection which ≡ Some (found_at place timestamp) → Sought place timestamp
   unfolding sought
   sought-found place timestamp found =
-      let (inside, passes, is, best) = chosen_is timestamps (taken_before which) fits (taken_irreflexive which) (taken_transitive which) (At place timestamp) found in
+      let (inside, passes, is, best) = chosen_is timestamps (taken_before which) fits (taken_irreflexive which) (taken_transitive which) (Some (found_at place timestamp)) found in
       record {
         inside = inside;
         is = is;
@@ -124,8 +127,8 @@ module _ (timestamps : List ℕ) (connection : Connection) (which : Which) where
 
   -- where an item that fits is UNSEEN, something is found
   pub sought_some : (place : ℕ) → place < item_places → is_unseen_at timestamps connection place ≡ true → is_wanted which (at item_places timestamps place) ≡ true
-      → sought timestamps connection which ≡ Nothing → ⊥
+      → sought timestamps connection which ≡ None → ⊥
   unfolding sought
   sought_some place below unseen wanted none =
       true_not_false (and_both unseen wanted)
-      (chosen_is timestamps (taken_before which) fits (taken_irreflexive which) (taken_transitive which) Nothing none place below)
+      (chosen_is timestamps (taken_before which) fits (taken_irreflexive which) (taken_transitive which) None none place below)

@@ -7,14 +7,13 @@ use Prim.Native.Nat.{◌<◌, ◌≤◌, min, suc, zero, ℕ}
 use native.Mathlib.Nat.{le_refl, min-eq_left}
 use native.Mathlib.Omega.{arith}
 use lib.Dec.{leb, ltb}
-use borrow.Author.Tests.{leb-true, ltb-false}
+use borrow.Author.Tests.{le-leb, leb-true, lt-leb}
 use Rattle.words.specs.Places.{each, fold_to}
 use Rattle.words.specs.Words.{both, except, has}
 use Rattle.words.proofs.Laws.{both_at, except-at}
 use Rattle.words.proofs.Walk.{each_and, each_ext}
 use Rattle.words.proofs.YesOrNo.{and_right, bool_cases}
 use Rattle.rows.specs.Numbers.{never}
-use Rattle.rows.specs.Times.{least_if}
 use Rattle.rows.specs.declared.Connection.{Connection}
 use Rattle.rows.proofs.Seen.{open_is, pending_is}
 use Rattle.tables.specs.Columns.{at, item_places}
@@ -26,6 +25,10 @@ use Rattle.tables.specs.Times.{least_from, open_time, pending_time, smallest}
 -- one turn of a loop that looks for it
 abbrev pub lowered : (ℕ → ℕ) → ℕ → ℕ → ℕ
 lowered time i least = min (time i) least
+
+-- the smaller of the least so far and of a time that was read
+pub lowers : (time : ℕ → ℕ) (i least : ℕ) {read x : ℕ} → x ≡ min least read → read ≡ time i → x ≡ lowered time i least
+lowers time i least made is = omega (arith, made, is)
 
 -- a loop that starts at a time finds the smaller of that time and of what it finds from never on
 pub smallest_from : (n : ℕ) (counts : ℕ → Bool) (time : ℕ → ℕ) (start : ℕ) → start ≤ never
@@ -63,11 +66,22 @@ smallest_above (suc n) counts time least fits above = go (counts n) (above n) (s
 module _ (timestamps : List ℕ) where
   -- one turn of the loop
   abbrev pub from_step : ℕ → ℕ → ℕ → ℕ
-  from_step mark p least = least_if (leb mark (at item_places timestamps p)) (at item_places timestamps p) least
+  from_step mark p least = cond (leb mark (at item_places timestamps p)) (min (at item_places timestamps p) least) least
+
+  -- a step takes the timestamp that it read where the mark is not above it, and passes it over where it is
+  pub from_takes : (mark p least : ℕ) {read x : ℕ} → read ≡ at item_places timestamps p → mark ≤ read → x ≡ min least read → x ≡ from_step mark p least
+  from_takes mark p least is above made =
+      let made_of : _ ≡ min (at item_places timestamps p) least = omega (arith, is, made) in
+      made_of
+      ∙ sym (ap (λ (t : Bool). cond t (min (at item_places timestamps p) least) least) (le-leb mark (at item_places timestamps p) (rw is at above)))
+
+  pub from_passes : (mark p least : ℕ) {read : ℕ} → read ≡ at item_places timestamps p → read < mark → least ≡ from_step mark p least
+  from_passes mark p least is below =
+      sym (ap (λ (t : Bool). cond t (min (at item_places timestamps p) least) least) (lt-leb mark (at item_places timestamps p) (rw is at below)))
 
   pub least_from_is : (places mark time : ℕ) → time ≤ never
       → each item_places (has places) (from_step mark) time ≡ min time (least_from timestamps places mark)
-  unfolding least_from least_if
+  unfolding least_from
   least_from_is places mark time fits =
       sym (each_and item_places _ time _ _ _ (λ p inside. refl)) ∙ smallest_from item_places _ (at item_places timestamps) time fits
 
@@ -78,24 +92,6 @@ module _ (timestamps : List ℕ) where
       smallest_above item_places _ _ least fits
       (λ p counted. let above : mark ≤ at item_places timestamps p = leb-true mark (at item_places timestamps p) (and_right (has places p) _ counted) in
       omega arith)
-
-  -- so no place need be looked at then
-  pub from_where : (places mark least : ℕ) {asked x : ℕ} → least ≤ never
-      → asked ≡ cond (ltb mark least) places 0
-      → x ≡ min least (least_from timestamps asked mark)
-      → x ≡ min (least_from timestamps places mark) least
-  from_where places mark least {asked} {x} fits word found = bool_cases (ltb mark least) below above
-    where
-      below : ltb mark least ≡ true → x ≡ min (least_from timestamps places mark) least
-      below e =
-          let same = ap (λ (w : ℕ). least_from timestamps w mark) (word ∙ ap (λ (t : Bool). cond t places 0) e) in
-          omega (arith, found, same)
-
-      above : ltb mark least ≡ false → x ≡ min (least_from timestamps places mark) least
-      above e =
-          let none = from_above asked mark least fits (ltb-false mark least e) in
-          let neither = from_above places mark least fits (ltb-false mark least e) in
-          omega (arith, found, none, neither)
 
   -- ---- OPEN timestamps, and those UNSEEN or OPEN
 
@@ -113,17 +109,10 @@ module _ (timestamps : List ℕ) where
         ∙ open_split (has connection.items p) above (has connection.opened p)
         ∙ ap (λ (t : Bool). t && above) (sym (both_at connection.items connection.opened inside)))
 
-    -- one turn of a loop over connections, by what was read of this one
-    pub open_turn : (least : ℕ) {items mark opened word x : ℕ}
-        → items ≡ connection.items → mark ≡ connection.mark → opened ≡ connection.opened
-        → word ≡ both items opened
-        → x ≡ min least (least_from timestamps word mark)
+    -- one turn of a loop over connections
+    pub open_turn : (least : ℕ) {x : ℕ} → x ≡ min least (least_from timestamps (both connection.items connection.opened) connection.mark)
         → x ≡ min (open_time timestamps connection) least
-    open_turn least {mark = mark} items_read mark_read opened_read word found =
-        let same = ap (λ (w : ℕ). least_from timestamps w mark) (word ∙ ap₂ both items_read opened_read)
-        ∙ ap (least_from timestamps (both connection.items connection.opened)) mark_read
-        ∙ sym open_time_is in
-        omega (arith, found, same)
+    open_turn least found = omega (arith, found, open_time_is)
 
     pending_split : (held above opened consumed : Bool) → (held && (above && (opened || not consumed))) ≡ ((held && not (consumed && not opened)) && above)
     pending_split false above opened consumed = refl
@@ -147,9 +136,9 @@ module _ (timestamps : List ℕ) where
         ∙ ap (λ (t : Bool). (held && not t) && above) (sym (except-at connection.consumed connection.opened inside))
         ∙ ap (λ (t : Bool). t && above) (sym (except-at connection.items _ inside)))
 
-    -- one turn, which looks at no place where the mark is not below the least
-    pub pending_turn : (least : ℕ) {asked x : ℕ} → least ≤ never
-        → asked ≡ cond (ltb connection.mark least) awaited_places 0
-        → x ≡ min least (least_from timestamps asked connection.mark)
-        → x ≡ min (pending_time timestamps connection) least
-    pending_turn least fits word found = omega (arith, from_where awaited_places connection.mark least fits word found, pending_time_is)
+    -- one turn: the places are looked at where the mark is below the least, and else none of them could lower it
+    pub pending_turn : (least : ℕ) {x : ℕ} → x ≡ min least (least_from timestamps awaited_places connection.mark) → x ≡ min (pending_time timestamps connection) least
+    pending_turn least found = omega (arith, found, pending_time_is)
+
+    pub pending_past : (least : ℕ) → least ≤ never → least ≤ connection.mark → least ≡ min (pending_time timestamps connection) least
+    pending_past least fits marked = omega (arith, pending_time_is, from_above awaited_places connection.mark least fits marked)

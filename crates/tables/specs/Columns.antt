@@ -2,11 +2,16 @@
 use Rattle.std.specs.Prelude.{Bool, cond, ◌&&◌, List, ℕ, ltb, get_or, set}
 use Rattle.words.specs.Words.{has}
 use Rattle.rows.specs.declared.Connection.{Connection}
+use Rattle.tables.specs.declared.columns.Seen.{Seen}
 pub use Rattle.rows.specs.Numbers.{thread_places, channel_places, connection_places, item_places}
 
--- what stands in a place of a column of so many places; a number past them reads 0
-unfoldable pub at : ℕ → List ℕ → ℕ → ℕ
-at places column place = cond (ltb place places) (get_or column place 0) 0
+-- what stands in a place of a column of so many places; a number past them reads as the zero
+unfoldable pub reads : {A : Type 0} → A → ℕ → List A → ℕ → A
+reads zero places column place = cond (ltb place places) (get_or column place zero) zero
+
+-- of numbers and of words the zero is 0
+abbrev pub at : ℕ → List ℕ → ℕ → ℕ
+at = reads 0
 
 -- the column with another number in a place; a number past them names no place
 unfoldable pub set_at : ℕ → List ℕ → ℕ → ℕ → List ℕ
@@ -24,3 +29,7 @@ connection_in leads held marks opened consumed connection = record {
   opened = at connection_places opened connection;
   consumed = at connection_places consumed connection;
 }
+
+-- the same, of the columns that are lent together
+abbrev pub connection_of : Seen → ℕ → Connection
+connection_of seen connection = connection_in seen.leads.now seen.held.now seen.marks.now seen.opened.now seen.consumed.now connection

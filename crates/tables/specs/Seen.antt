@@ -1,5 +1,5 @@
 -- Document 01, "What a connection has seen". Assumes nothing.
-use Rattle.std.specs.Prelude.{Bool, ◌&&◌, List, ℕ, eqb}
+use Rattle.std.specs.Prelude.{Bool, cond, ◌&&◌, List, ℕ, eqb, ltb, Option, Some, None}
 use Rattle.words.specs.Places.{lowest_of}
 use Rattle.words.specs.Words.{has}
 use Rattle.rows.specs.declared.Connection.{Connection}
@@ -15,6 +15,10 @@ is_item timestamps places timestamp place = has places place && eqb (at item_pla
 -- where among a channel's places the item with the timestamp lies; the number of places where "the channel has no such item"
 unfoldable pub place_of : List ℕ → ℕ → ℕ → ℕ
 place_of timestamps places timestamp = lowest_of (is_item timestamps places timestamp) item_places
+
+-- the same as the code hands it on: the place, or nothing
+abbrev pub place_if_any : ℕ → Option ℕ
+place_if_any place = cond (ltb place item_places) (Some place) None
 
 -- "For a timestamp on it": the state of a timestamp on a connection
 unfoldable pub state : List ℕ → Connection → ℕ → State

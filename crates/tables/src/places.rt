@@ -6,8 +6,5 @@ ghost use Rattle.tables.specs.Columns.{in_use};
 pub fn in_use(used: u64, place: u32, places: u32) -> bool
     ensures { result ≡ in_use used place places }
 {
-    if place >= places {
-        return false;
-    }
-    words::has(used, place)
+    place < places && words::has(used, place)
 }

@@ -3,11 +3,13 @@
 use mathlib.Core.Bool.{Bool, ◌&&◌, cond, false, true}
 use mathlib.Core.Logic.{◌≢◌, ⊎_elim}
 use mathlib.Core.Path.{◌∙◌, ◌≡◌, ap, ap₂, refl, subst, sym}
-use Prim.Native.Nat.{◌<◌, ◌≤◌, suc, zero, ℕ}
+use Prim.Native.Nat.{◌<◌, ◌≤◌, min, suc, zero, ℕ}
 use native.Mathlib.Nat.{eq-or-lt_of_le, le_of_suc-le-suc, le_refl, not-suc-le-zero}
 use native.Mathlib.Omega.{arith}
+use Rattle.std.proofs.Common.{Some, None}
 use Rattle.words.specs.Places.{each, fold_to}
-use Rattle.words.specs.Words.{count, has, lowest, without, word_places}
+use Rattle.words.specs.Words.{count, has, lowest, walks, without, word_places}
+use Rattle.words.specs.declared.PlaceWalk.{PlaceWalk}
 use Rattle.words.proofs.Laws.{count-without, lowest-below, lowest-has, without_other, without-same}
 
 module _ {B : Type 0} where
@@ -91,6 +93,36 @@ module _ {B : Type 0} where
   pub each-done : (n : ℕ) (f : ℕ → B → B) (w : ℕ) {p : ℕ} {x t : B} → n ≤ p → p ≡ lowest w → each n (has w) f x ≡ t → x ≡ t
   unfolding each
   each-done n f w {p} {x} l e whole = sym (fold_none f w x n (λ i k. lowest-below w (omega arith))) ∙ whole
+
+  -- ---- the same, of the steps of a walk over the places below n
+
+  -- the first place is still to come
+  pub walk_starts : (n : ℕ) (f : ℕ → B → B) (x : B) {word : ℕ} {made walk : PlaceWalk} {t : B} → walk ≡ made
+      → (made.rest ≡ word) × (made.end ≡ n)
+      → each n (has word) f x ≡ t
+      → (walk.end ≡ n) × (each n (has walk.rest) f x ≡ t)
+  walk_starts n f x same is whole = (
+    ap (λ (w : PlaceWalk). w.end) same ∙ is.1,
+    ap (λ (w : ℕ). each n (has w) f x) (ap (λ (w : PlaceWalk). w.rest) same ∙ is.0) ∙ whole,
+  )
+
+  pub walk_turn : (n : ℕ) (f : ℕ → B → B) (x : B) (walk after : PlaceWalk) {p : ℕ} {y t : B} → n ≤ word_places → walk.end ≡ n → walks walk (Some p) after
+      → y ≡ f p x
+      → each n (has walk.rest) f x ≡ t
+      → (after.end ≡ n) × (each n (has after.rest) f y ≡ t)
+  walk_turn n f x walk after {p} m ends steps step whole = (
+    ap (λ (w : PlaceWalk). w.end) steps.2 ∙ ends,
+    each_turn n f walk.rest x m
+        (let inside = steps.1 in omega arith)
+        steps.0 step
+        (ap (λ (w : PlaceWalk). w.rest) steps.2)
+        whole,
+  )
+
+  pub walk-done : (n : ℕ) (f : ℕ → B → B) (walk after : PlaceWalk) {x t : B} → n ≤ word_places → walk.end ≡ n → walks walk None after
+      → each n (has walk.rest) f x ≡ t
+      → x ≡ t
+  walk-done n f walk after m ends steps whole = each-done n f walk.rest (let past = steps.0 in omega arith) refl whole
 
   -- ---- which places count
 

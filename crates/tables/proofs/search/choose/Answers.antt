@@ -1,75 +1,66 @@
--- The loop goes over the places of the word, lowest first, and leaves to each turn whether the timestamp is tried. After each turn the rest of the loop
+-- The walk goes over the places of the word, lowest first, and leaves to each step whether the timestamp is tried. After each step the rest of the walk
 -- still finds what the whole finds. Assumes nothing.
-use mathlib.Core.Bool.{Bool, true, false, cond}
+use mathlib.Core.Bool.{Bool, true, false, cond, ◌&&◌, and-false}
+use mathlib.Core.List.{List}
 use mathlib.Core.Path.{◌≡◌, refl, sym, ap, ◌∙◌}
-use Prim.Native.Nat.{ℕ, ◌<◌}
+use Prim.Native.Nat.{ℕ}
 use native.Mathlib.Omega.{arith}
-use Rattle.words.specs.Places.{each}
-use Rattle.words.specs.Words.{has, lowest, count}
-use Rattle.words.proofs.Walk.{each_and, each_turn, each-done, each_falls}
+use lib.Dec.{leb}
+use borrow.Author.Tests.{le-leb, lt-leb}
+use Rattle.std.proofs.Common.{Option}
+use Rattle.words.proofs.Walk.{each_and, walk_turn, walk-done, walk_starts}
 use Rattle.calls.specs.declared.Which.{Which}
 use Rattle.rows.specs.declared.Found.{Found}
 use Rattle.rows.specs.Choices.{preferred, taken_before}
-use Rattle.tables.specs.Columns.{item_places}
-use Rattle.tables.specs.Search.{chosen, chosen_from}
-use Rattle.tables.proofs.search.choose.Invariants.{tried, step}
+use Rattle.tables.specs.Columns.{at, item_places}
+use Rattle.tables.specs.Search.{chosen, chosen_from, is_wanted}
+use Rattle.tables.proofs.search.choose.Invariants.{step}
 use Rattle.tables.proofs.search.choose.Goals as goal
-use Rattle.tables.proofs.search.choose.Goals.{After-lowest-p-in-loop-p, After-is_tried}
+use Rattle.tables.proofs.search.choose.Goals.{else-mark-timestamp-via-then-mark-timestamp+else-is_wanted, else-mark-timestamp-via-else-mark-timestamp}
 
--- what a turn makes of what was found, by the timestamp that it read
-stepped : (which : Which) (mark p : ℕ) (found : Found) (read : ℕ) {timestamp : ℕ} {tries : Bool} {next : Found}
-    → read ≡ timestamp → tries ≡ tried mark which read → next ≡ cond tries (preferred (taken_before which) found p read) found
-    → next ≡ cond (tried mark which timestamp) (preferred (taken_before which) found p timestamp) found
-stepped which mark p found read same tries made =
-    made
-    ∙ ap (λ (b : Bool). cond b (preferred (taken_before which) found p read) found) tries
-    ∙ ap (λ (s : ℕ). cond (tried mark which s) (preferred (taken_before which) found p s) found) same
+-- a step, by the timestamp that it read and by whether this is tried
+stepped : (timestamps : List ℕ) (mark : ℕ) (which : Which) (p : ℕ) (found : Option Found) {read : ℕ} (tries : Bool) → read ≡ at item_places timestamps p
+    → (leb mark read && is_wanted which read) ≡ tries
+    → cond tries (preferred (taken_before which) found p read) found ≡ step timestamps mark which p found
+stepped timestamps mark which p found {read} tries is tested =
+    ap (λ (b : Bool). cond b (preferred (taken_before which) found p read) found) (sym tested)
+    ∙ ap (λ (t : ℕ). cond (leb mark t && is_wanted which t) (preferred (taken_before which) found p t) found) is
 
--- the two ways of a turn
-taken : {tries : Bool} (next found : Found) → tries ≡ true → next ≡ cond tries next found
-taken next found holds = ap (λ (b : Bool). cond b next found) (sym holds)
+both_hold : {a b wanted : Bool} → a ≡ true → wanted ≡ b → wanted ≡ true → (a && b) ≡ true
+both_hold holds is wanted = rw holds (sym is ∙ wanted)
 
-passed_over : {tries : Bool} (next found : Found) → tries ≡ false → found ≡ cond tries next found
-passed_over next found fails = ap (λ (b : Bool). cond b next found) (sym fails)
+second_fails : (a : Bool) {b wanted : Bool} → wanted ≡ b → wanted ≡ false → (a && b) ≡ false
+second_fails a is unwanted = rw (sym is ∙ unwanted) (and-false a)
 
-pub loop-p-init : goal.loop-p-init
+pub loop-place-init : goal.loop-place-init
 unfolding chosen_from chosen
-loop-p-init c = (c.lowest-p.ensures, sym (each_and item_places _ _ _ _ _ (λ p inside. refl)))
+loop-place-init c =
+    walk_starts item_places _ _ c.into_iter-place-iterator.ensures.into_iter_gives c.places-place-items.ensures
+    (sym (each_and item_places _ _ _ _ _ (λ p inside. refl)))
 
--- whatever the turn found, fewer places are left
-fewer : (c : After-lowest-p-in-loop-p) → count c.without-rest.result < count c.loop-p.rest
-fewer c =
-    each_falls c.loop-p.rest c.loop-p-test.true c.loop-p.invariant.0 c.without-rest.ensures
-
--- the invariant again, after a turn that made this of what was found
-again : (c : After-is_tried) {next : Found}
-    → (let args = c.args in
-    next ≡ cond c.is_tried.result (preferred (taken_before args.which) c.loop-p.found c.loop-p.p c.timestamp_at-timestamp.result) c.loop-p.found)
-    → (let args = c.args in
-    (c.lowest-p-in-loop-p.result ≡ lowest c.without-rest.result)
-    × (each item_places (has c.without-rest.result) (step args.timestamps.now args.mark args.which) next
-    ≡ chosen_from args.timestamps.now args.places args.mark args.which))
-again c made =
-    let here = c.loop-p in
+pub loop-place-preserved-then-is_wanted : goal.loop-place-preserved-then-is_wanted
+loop-place-preserved-then-is_wanted c =
+    let here = c.loop-place in
     let args = c.args in
-    let taken-on = stepped args.which args.mark here.p here.found _ c.timestamp_at-timestamp.ensures c.is_tried.ensures made in (
-      c.lowest-p-in-loop-p.ensures,
-      each_turn item_places _ here.rest here.found (omega arith) c.loop-p-test.true here.invariant.0 taken-on c.without-rest.ensures here.invariant.1,
-    )
+    let tried = both_hold (le-leb args.mark _ c.if-mark-timestamp.true) c.is_wanted.ensures c.if-is_wanted.true in
+    walk_turn item_places _ here.found here.place-iterator c.next.new.self (omega arith) here.invariant.0 c.in-Some.ensures.steps
+    (c.or_taken-found.ensures ∙ stepped args.timestamps.now args.mark args.which c.in-Some.place here.found true c.at-timestamp.ensures tried)
+    here.invariant.1
 
-pub loop-p-smaller-then-is_tried : goal.loop-p-smaller-then-is_tried
-loop-p-smaller-then-is_tried c = fewer (goal.at.loop-p-smaller-then-is_tried c).After-lowest-p-in-loop-p
-
-pub loop-p-preserved-then-is_tried : goal.loop-p-preserved-then-is_tried
-loop-p-preserved-then-is_tried c = again (goal.at.loop-p-preserved-then-is_tried c).After-is_tried (c.or_taken-found.ensures ∙ taken _ _ c.if-is_tried.true)
-
-pub loop-p-smaller : goal.loop-p-smaller
-loop-p-smaller c = fewer (goal.at.loop-p-smaller c).After-lowest-p-in-loop-p
-
-pub loop-p-preserved : goal.loop-p-preserved
-loop-p-preserved c = again (goal.at.loop-p-preserved c).After-is_tried (passed_over _ _ c.if-is_tried.false)
+pub loop-place-preserved : goal.loop-place-preserved
+loop-place-preserved c =
+    let here = c.loop-place in
+    let args = c.args in
+    let passed_over : (leb args.mark c.at-timestamp.result && is_wanted args.which c.at-timestamp.result) ≡ false =
+    elim c.else-mark-timestamp.branch as (λ _. (leb args.mark c.at-timestamp.result && is_wanted args.which c.at-timestamp.result) ≡ false) [
+      | else-mark-timestamp-via-then-mark-timestamp+else-is_wanted w ↦ second_fails _ w.is_wanted.ensures w.if-is_wanted.false
+      | else-mark-timestamp-via-else-mark-timestamp w ↦ ap (λ (b : Bool). b && is_wanted args.which c.at-timestamp.result) (lt-leb args.mark _ w.if-mark-timestamp.false)
+    ] in
+    walk_turn item_places _ here.found here.place-iterator c.next.new.self (omega arith) here.invariant.0 c.in-Some.ensures.steps
+    (stepped args.timestamps.now args.mark args.which c.in-Some.place here.found false c.at-timestamp.ensures passed_over)
+    here.invariant.1
 
 pub returns : goal.returns
 returns c =
-    let here = c.loop-p in
-    each-done item_places _ here.rest c.loop-p-test.false here.invariant.0 here.invariant.1
+    let here = c.loop-place in
+    walk-done item_places _ here.place-iterator c.next.new.self (omega arith) here.invariant.0 c.in-None.ensures.steps here.invariant.1

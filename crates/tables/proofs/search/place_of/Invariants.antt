@@ -3,7 +3,6 @@ use mathlib.Core.List.{List}
 use mathlib.Core.Path.{◌≡◌}
 use Prim.Native.Nat.{ℕ}
 use lib.Dec.{eqb}
-use Rattle.words.specs.Words.{count, lowest}
 use Rattle.words.proofs.Search.{lowest_in}
 use Rattle.tables.specs.Columns.{at, item_places}
 use Rattle.tables.specs.Seen.{place_of}
@@ -13,9 +12,7 @@ use Rattle.tables.proofs.search.place_of.Given as goal
 abbrev pub is_it : List ℕ → ℕ → ℕ → Bool
 is_it timestamps timestamp p = eqb (at item_places timestamps p) timestamp
 
-abbrev pub invariant-loop-p : goal.invariant-loop-p
-invariant-loop-p l =
-    (l.p ≡ lowest l.rest) × (lowest_in l.rest (is_it l.timestamps l.timestamp) ≡ place_of l.timestamps l.places l.timestamp)
-
-abbrev pub decreases-loop-p : goal.decreases-loop-p
-decreases-loop-p l = count l.rest
+abbrev pub invariant-loop-place : goal.invariant-loop-place
+invariant-loop-place l =
+    let walk = l.place-iterator in
+    (walk.end ≡ item_places) × (lowest_in walk.rest (is_it l.timestamps l.timestamp) ≡ place_of l.timestamps l.places l.timestamp)
