@@ -13,7 +13,7 @@ use Rattle.words.specs.Places.{each, fold_to}
 use Rattle.words.specs.Words.{has}
 use Rattle.tables.specs.Columns.{at}
 use Rattle.tables.proofs.At.{at-past, at_set_other, at_set_same}
-use Rattle.leaving.specs.Leaving.{changed, cleared}
+use Rattle.leaving.specs.Leaving.{changed, cleared, changed_over}
 
 -- ---- the places one by one
 
@@ -74,11 +74,11 @@ module _ (places : ℕ) (test : ℕ → Bool) (rule : ℕ → ℕ) (column : Lis
   -- ---- the whole
 
   pub length-changed : length (changed places test rule column) ≡ length column
-  unfolding changed
+  unfolding changed_over
   length-changed = length_to places
 
   pub changed-at : length column ≡ places → (place : ℕ) → place < places → at places (changed places test rule column) place ≡ wanted place
-  unfolding changed
+  unfolding changed_over
   changed-at sized place inside = at_to sized places place inside (le_refl places)
 
   -- by the test

@@ -15,9 +15,9 @@ use Rattle.words.proofs.Changes.{both_left, both_right, in_both}
 use Rattle.words.proofs.Laws.{count_ext, count_none, has_none, lowest-below, lowest-has, lowest-holds, lowest_reach, word_ext, word_of_lt}
 use Rattle.words.proofs.YesOrNo.{true_not_false}
 use Rattle.calls.specs.declared.Which.TheVariants.{Earliest}
-use Rattle.rows.specs.Choices.{place_found, taken_before}
+use Rattle.rows.specs.Choices.{found_at, place_found, taken_before}
+use Rattle.std.proofs.Common.{Option, Some, None}
 use Rattle.rows.specs.declared.Found.{Found}
-use Rattle.rows.specs.declared.Found.TheVariants.{At, Nothing}
 use Rattle.rows.proofs.Orders.{taken_irreflexive, taken_transitive}
 use Rattle.tables.specs.Columns.{at, channel_places, item_places}
 use Rattle.tables.specs.Order.{Inside, Shared}
@@ -77,7 +77,7 @@ module _ (timestamps held : List ℕ) (places : ℕ) (inside : Inside item_place
   abbrev counts : ℕ → Bool
   counts = has (both in_channel places)
 
-  abbrev earliest : Found
+  abbrev earliest : Option Found
   earliest = chosen timestamps (taken_before Earliest) counts
 
   -- where no timestamp of the first channel's items is smaller, the place is the first
@@ -90,7 +90,7 @@ module _ (timestamps held : List ℕ) (places : ℕ) (inside : Inside item_place
       λ same. in_both in_channel places other below (subst (λ (c : ℕ). lies held c other ≡ true) (sym same) lying) there in
       ⊎_elim (λ same. inr (same, least other below (here same))) inl (eq-or-lt_of_le (lowest-channel held places channel other below lying there))
 
-  first_found : (place timestamp : ℕ) → earliest ≡ At place timestamp → First timestamps held places
+  first_found : (place timestamp : ℕ) → earliest ≡ Some (found_at place timestamp) → First timestamps held places
   unfolding first_place
   first_found place timestamp found =
       let (below, passes, is, best) = chosen_is timestamps (taken_before Earliest) counts (taken_irreflexive Earliest) (taken_transitive Earliest) _ found in
@@ -106,10 +106,10 @@ module _ (timestamps held : List ℕ) (places : ℕ) (inside : Inside item_place
       }
 
   -- a channel that holds an item in one of the places has an earliest
-  some_found : holds_one held places (first_channel held places) ≡ true → earliest ≡ Nothing → ⊥
+  some_found : holds_one held places (first_channel held places) ≡ true → earliest ≡ None → ⊥
   unfolding both
   some_found holds found =
-      let none = chosen_is timestamps (taken_before Earliest) counts (taken_irreflexive Earliest) (taken_transitive Earliest) Nothing found in
+      let none = chosen_is timestamps (taken_before Earliest) counts (taken_irreflexive Earliest) (taken_transitive Earliest) None found in
       let empty = word_ext (both in_channel places) 0 (word_of_lt _ word_places) (pow_pos word_places) (λ place below. none place below ∙ sym (has_none place)) in
       true_not_false holds (ap not (eq-eqb (both in_channel places) 0 empty))
 
@@ -121,9 +121,9 @@ module _ (timestamps held : List ℕ) (places : ℕ) (inside : Inside item_place
       let (channel, exists, lying) = shared.owner place (within place there) in
       go (lowest-holds (holds_one held places) channel_places (omega (arith, lowest-channel held places channel place below lying there))) earliest refl
     where
-      go : holds_one held places (first_channel held places) ≡ true → (found : Found) → earliest ≡ found → First timestamps held places
-      go holds (At place timestamp) found = first_found place timestamp found
-      go holds Nothing found = absurd (some_found holds found)
+      go : holds_one held places (first_channel held places) ≡ true → (found : Option Found) → earliest ≡ found → First timestamps held places
+      go holds (Some at_first) found = first_found at_first.place at_first.timestamp found
+      go holds None found = absurd (some_found holds found)
 
 -- another one comes after it, where the items of a channel have different timestamps
 module _ (timestamps held : List ℕ) (places : ℕ) (first : First timestamps held places)

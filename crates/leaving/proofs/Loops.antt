@@ -6,12 +6,15 @@ use mathlib.Core.Path.{◌∙◌, ◌≡◌, ap, refl, sym}
 use Prim.Native.Nat.{◌+◌, ◌<◌, ◌≤◌, zero-le, ℕ}
 use native.Mathlib.Nat.{le_antisymm}
 use native.Mathlib.Numerals.{add-one}
+use native.Mathlib.Omega.{arith}
 use lib.ListN.{get_or, set}
 use Rattle.words.specs.Places.{each, fold_to}
-use Rattle.words.specs.Words.{has, lowest, without, word_places}
-use Rattle.words.proofs.Walk.{each-done, each_turn}
+use Rattle.std.proofs.Common.{Some, None}
+use Rattle.words.specs.Words.{has, walks, word_places}
+use Rattle.words.specs.declared.PlaceWalk.{PlaceWalk}
+use Rattle.words.proofs.Walk.{walk-done, walk_turn}
 use Rattle.tables.proofs.At.{at_inside}
-use Rattle.leaving.specs.Leaving.{changed}
+use Rattle.leaving.specs.Leaving.{changed, changed_over}
 use Rattle.leaving.proofs.Changed.{changing}
 
 module _ (places : ℕ) (rule : ℕ → ℕ) where
@@ -22,25 +25,31 @@ module _ (places : ℕ) (rule : ℕ → ℕ) where
 
   -- ---- over the places of a word
 
-  -- the place is the lowest of what is left, and from here on the loop leads to the whole
-  pub record Leads (rest place : ℕ) (column whole : List ℕ) : Type 0 where
-    pub first : place ≡ lowest rest
-    pub to : changed places (has rest) rule column ≡ whole
+  -- from here on the walk leads to the whole
+  pub record Leads (walk : PlaceWalk) (column whole : List ℕ) : Type 0 where
+    pub ends : walk.end ≡ places
+    pub to : changed places (has walk.rest) rule column ≡ whole
 
-  pub leads_on : {rest place left next number : ℕ} {column whole : List ℕ} → places ≤ word_places → place < places → Leads rest place column whole
-      → number ≡ rule (get_or column place 0)
-      → left ≡ without rest place
-      → next ≡ lowest left
-      → Leads left next (set column place number) whole
-  unfolding changed
-  leads_on {rest} {column = column} fits inside here written less first = record {
-    first = first;
-    to = each_turn places (changing places rule) rest column fits inside here.first (by_rule column inside written) less here.to;
+  pub leads_starts : {word : ℕ} (made walk : PlaceWalk) (column : List ℕ) → walk ≡ made → (made.rest ≡ word) × (made.end ≡ places)
+      → Leads walk column (changed places (has word) rule column)
+  leads_starts made walk column same is = record {
+    ends = ap (λ (w : PlaceWalk). w.end) same ∙ is.1;
+    to = ap (λ (w : ℕ). changed places (has w) rule column) (ap (λ (w : PlaceWalk). w.rest) same ∙ is.0);
   }
 
-  pub leads_end : {rest place : ℕ} {column whole : List ℕ} → places ≤ place → Leads rest place column whole → column ≡ whole
-  unfolding changed
-  leads_end {rest} past here = each-done places (changing places rule) rest past here.first here.to
+  pub leads_on : (walk after : PlaceWalk) {place number : ℕ} {column whole : List ℕ} → places ≤ word_places → Leads walk column whole
+      → walks walk (Some place) after
+      → number ≡ rule (get_or column place 0)
+      → Leads after (set column place number) whole
+  unfolding changed_over
+  leads_on walk after {column = column} fits here steps written =
+      let inside = steps.1 in
+      let turn = walk_turn places (changing places rule) column walk after fits here.ends steps (by_rule column (omega (arith, inside, here.ends)) written) here.to in
+      record { ends = turn.0; to = turn.1 }
+
+  pub leads_end : (walk after : PlaceWalk) {column whole : List ℕ} → places ≤ word_places → Leads walk column whole → walks walk None after → column ≡ whole
+  unfolding changed_over
+  leads_end walk after fits here steps = walk-done places (changing places rule) walk after fits here.ends steps here.to
 
   -- ---- from 0 up
 
@@ -60,6 +69,6 @@ module _ (places : ℕ) (rule : ℕ → ℕ) where
       rw add-one (record { inside = below; so_far = by_rule column below written ∙ ap (changing places rule place) here.so_far })
 
   pub reached-end : {place : ℕ} {start column : List ℕ} → places ≤ place → Reached place start column → column ≡ changed places (λ earlier. true) rule start
-  unfolding changed
+  unfolding changed_over
   reached-end {start = start} past here =
       here.so_far ∙ ap (λ (n : ℕ). each n (λ earlier. true) (changing places rule) start) (le_antisymm here.inside past)

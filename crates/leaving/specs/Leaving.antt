@@ -4,16 +4,24 @@ use Rattle.words.specs.Places.{each, lowest_of, word_of}
 use Rattle.words.specs.Words.{both, count, except, has, without}
 use Rattle.rows.specs.Choices.{place_found, taken_before}
 use Rattle.calls.specs.declared.Which.TheVariants.{Earliest}
-use Rattle.tables.specs.Columns.{at, channel_places, connection_places, item_places}
+use Rattle.tables.specs.Columns.{at, channel_places, connection_places, item_places, reads}
 use Rattle.tables.specs.Search.{chosen}
 
--- a column of so many places, changed by a rule in the places that pass the test
-unfoldable pub changed : ℕ → (ℕ → Bool) → (ℕ → ℕ) → List ℕ → List ℕ
-changed places test rule column = each places test (λ place numbers. set numbers place (rule (at places numbers place))) column
+-- a column of so many places, in which a free place holds this, changed by a rule in the places that pass the test
+unfoldable pub changed_over : {A : Type 0} → A → ℕ → (ℕ → Bool) → (A → A) → List A → List A
+changed_over free places test rule column = each places test (λ place cells. set cells place (rule (reads free places cells place))) column
+
+-- a free place holds 0
+abbrev pub changed : ℕ → (ℕ → Bool) → (ℕ → ℕ) → List ℕ → List ℕ
+changed = changed_over 0
 
 -- "A free place holds zeros only.": the column once some places are freed
 abbrev pub cleared : ℕ → ℕ → List ℕ → List ℕ
 cleared places gone column = changed places (has gone) (λ number. 0) column
+
+-- the same where a free place holds this
+abbrev pub emptied : {A : Type 0} → A → ℕ → ℕ → List A → List A
+emptied free places gone column = changed_over free places (has gone) (λ cell. free) column
 
 -- "both are cleared for its place on every connection": every word of the column without some places
 abbrev pub lessened : ℕ → ℕ → List ℕ → List ℕ

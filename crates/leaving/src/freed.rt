@@ -1,59 +1,22 @@
 // Columns once some places are free: zeros stand there.
-ghost use Rattle.std.specs.Prelude.{◌≡◌};
-ghost use Rattle.tables.specs.Columns.{connection_places, item_places};
-ghost use Rattle.leaving.specs.Leaving.{cleared};
+ghost use Rattle.std.specs.Prelude.{◌≡◌, length, min};
+ghost use Rattle.words.specs.Words.{word_places};
+ghost use Rattle.leaving.specs.Leaving.{emptied};
 
-use rows::sizes::{CONNECTIONS, ITEMS};
-use tables::columns::{Numbers, Tickets, Timestamps, Words};
+use tables::columns::Zeroed;
 
-// The channels or the marks of connections.
-pub fn clear_numbers(column: &mut Numbers, gone: u64)
-    ensures { column.new ≡ cleared connection_places gone column.old }
+// A column of numbers or of words, as far as a word has places.
+pub fn clear<T: Zeroed + Drop, const N: usize>(column: &mut [T; N], gone: u64)
+    ensures { column.new ≡ emptied T.zero (min N word_places) gone column.old }
 {
-    let mut rest = gone;
-    let mut place = words::lowest(rest);
-    while place < CONNECTIONS {
-        column[place as usize] = 0;
-        rest = words::without(rest, place);
-        place = words::lowest(rest);
-    }
+    clear_cells(column, gone);
 }
 
-// One of the two facts of connections.
-pub fn clear_words(column: &mut Words, gone: u64)
-    ensures { column.new ≡ cleared connection_places gone column.old }
+// The same of a slice, since a write into an array needs to know how large its elements are.
+fn clear_cells<T: Zeroed + Drop>(cells: &mut [T], gone: u64)
+    ensures { cells.new ≡ emptied T.zero (min (length cells.old) word_places) gone cells.old }
 {
-    let mut rest = gone;
-    let mut place = words::lowest(rest);
-    while place < CONNECTIONS {
-        column[place as usize] = 0;
-        rest = words::without(rest, place);
-        place = words::lowest(rest);
-    }
-}
-
-// The timestamps of items.
-pub fn clear_timestamps(column: &mut Timestamps, gone: u64)
-    ensures { column.new ≡ cleared item_places gone column.old }
-{
-    let mut rest = gone;
-    let mut place = words::lowest(rest);
-    while place < ITEMS {
-        column[place as usize] = 0;
-        rest = words::without(rest, place);
-        place = words::lowest(rest);
-    }
-}
-
-// The tickets of items.
-pub fn clear_tickets(column: &mut Tickets, gone: u64)
-    ensures { column.new ≡ cleared item_places gone column.old }
-{
-    let mut rest = gone;
-    let mut place = words::lowest(rest);
-    while place < ITEMS {
-        column[place as usize] = 0;
-        rest = words::without(rest, place);
-        place = words::lowest(rest);
+    for place in words::places(gone, cells.len()) {
+        cells[place as usize] = T::zero();
     }
 }

@@ -3,31 +3,31 @@ ghost use Rattle.std.specs.Prelude.{◌≡◌};
 ghost use Rattle.leaving.specs.Leaving.{first_channel, first_place, handed_back};
 
 use calls::Which;
-use rows::sizes::CHANNELS;
-use tables::columns::{Held, Tickets, Timestamps, held_at, ticket_at};
+use rows::sizes::{CHANNELS, ITEMS};
+use tables::columns::{Held, Tickets, Timestamps, at};
 use tables::search::choose;
 
 // The lowest channel that holds an item in one of the places; the number of channels where none does.
 fn first_channel(held: &Held, places: u64) -> u32
     ensures { result ≡ first_channel held.now places }
 {
-    let mut channel: u32 = 0;
-    while channel < CHANNELS {
-        if words::both(held_at(held, channel), places) != 0 {
+    for channel in 0..CHANNELS {
+        if words::both(at(held, channel), places) != 0 {
             return channel;
         }
-        channel += 1;
     }
     CHANNELS
 }
 
-// The place of the first of the items in the places, by channel number, then timestamp.
+// The place of the first of the items in the places, by channel number, then timestamp; the number of places where there is none.
 fn first_place(timestamps: &Timestamps, held: &Held, places: u64) -> u32
     ensures { result ≡ first_place timestamps.now held.now places }
 {
-    let items = held_at(held, first_channel(held, places));
-    let found = choose(timestamps, words::both(items, places), 0, Which::Earliest);
-    found.place()
+    let items = at(held, first_channel(held, places));
+    let Some(found) = choose(timestamps, words::both(items, places), 0, Which::Earliest) else {
+        return ITEMS;
+    };
+    found.place
 }
 
 // Writes the tickets of the items in the places to the front of the slice, by channel number, then timestamp.
@@ -46,11 +46,9 @@ pub fn hand_back(
         return;
     }
     let mut places = gone;
-    let mut i: usize = 0;
-    while i < n {
+    for i in 0..n {
         let place = first_place(timestamps, held, places);
-        slice[i] = ticket_at(tickets, place);
+        slice[i] = at(tickets, place);
         places = words::without(places, place);
-        i += 1;
     }
 }

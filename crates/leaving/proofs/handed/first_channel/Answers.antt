@@ -20,28 +20,23 @@ held_one : (held : List ℕ) (places channel : ℕ) {word among : ℕ} {none : B
 held_one held places channel read kept test =
     ap (λ (word : ℕ). not (eqb (both word places) 0)) (sym read) ∙ ap (λ (among : ℕ). not (eqb among 0)) (sym kept) ∙ ap not test
 
-pub loop-channel-init : goal.loop-channel-init
-loop-channel-init c = (omega arith, λ earlier below. absurd (omega arith))
-
 pub returns-then-both-ne0 : goal.returns-then-both-ne0
 unfolding first_channel
 returns-then-both-ne0 c =
     let args = c.args in
     sym
     (lowest_unique (holds_one args.held.now args.places) c.loop-channel-test.true
-    (held_one _ _ _ c.held_at.ensures c.both.ensures (ne_eqb _ 0 c.if-both-ne0.true)) c.loop-channel.invariant.1)
-
-pub loop-channel-smaller : goal.loop-channel-smaller
-loop-channel-smaller c = omega arith
+    (held_one _ _ _ c.at.ensures c.both.ensures (ne_eqb _ 0 c.if-both-ne0.true)) c.loop-channel.invariant)
 
 pub loop-channel-preserved : goal.loop-channel-preserved
 loop-channel-preserved c =
     let args = c.args in
-    let fails = held_one _ _ _ c.held_at.ensures c.both.ensures (eq-eqb _ 0 c.if-both-ne0.false) in
-    (omega arith, rw add-one (and_this (λ earlier. holds_one args.held.now args.places earlier ≡ false) fails c.loop-channel.invariant.1))
+    let fails = held_one _ _ _ c.at.ensures c.both.ensures (eq-eqb _ 0 c.if-both-ne0.false) in
+    rw add-one (and_this (λ earlier. holds_one args.held.now args.places earlier ≡ false) fails c.loop-channel.invariant)
 
 pub returns : goal.returns
 unfolding first_channel
 returns c =
     let args = c.args in
-    sym (lowest_none (holds_one args.held.now args.places) channel_places (λ earlier below. c.loop-channel.invariant.1 earlier (omega arith)))
+    let end = c.loop-channel-test.false in
+    sym (lowest_none (holds_one args.held.now args.places) channel_places (λ earlier below. c.loop-channel.invariant earlier (omega arith)))

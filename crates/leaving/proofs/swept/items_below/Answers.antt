@@ -1,4 +1,4 @@
--- The loop gathers the present places whose timestamps lie below the bound. After each turn, what it has gathered and what the rest of it would still
+-- The walk gathers the present places whose timestamps lie below the bound. After each step, what it has gathered and what the rest of it would still
 -- gather is the whole word. Assumes nothing.
 use mathlib.Core.Bool.{cond}
 use mathlib.Core.List.{List}
@@ -9,7 +9,7 @@ use lib.Dec.{ltb}
 use Rattle.words.specs.Places.{each}
 use Rattle.words.specs.Words.{has, with}
 use Rattle.words.proofs.Gathered.{gathered, gathered_all}
-use Rattle.words.proofs.Walk.{each-done, each_falls, each_turn}
+use Rattle.words.proofs.Walk.{walk-done, walk_starts, walk_turn}
 use Rattle.tables.specs.Columns.{at, item_places}
 use Rattle.leaving.specs.Leaving.{is_below, items_below}
 use Rattle.leaving.proofs.swept.items_below.Invariants.{lies_below}
@@ -27,23 +27,20 @@ gathers : (timestamps : List ℕ) (bound gone place : ℕ) {timestamp next : ℕ
 unfolding lies_below
 gathers timestamps bound gone place read made = made ∙ ap (λ (t : ℕ). cond (ltb t bound) (with gone place) gone) read
 
-pub loop-p-init : goal.loop-p-init
-loop-p-init c = let args = c.args in (c.lowest-p.ensures, whole args.timestamps.now args.present args.bound)
-
-pub loop-p-smaller : goal.loop-p-smaller
-loop-p-smaller c =
-    each_falls c.loop-p.rest c.loop-p-test.true c.loop-p.invariant.0 c.without-rest.ensures
-
-pub loop-p-preserved : goal.loop-p-preserved
-loop-p-preserved c =
-    let here = c.loop-p in
+pub loop-place-init : goal.loop-place-init
+loop-place-init c =
     let args = c.args in
-    let read = c.timestamp_at.ensures in
-    let step = gathers args.timestamps.now args.bound here.gone here.p read c.with_if-gone.ensures in
-    let rest = c.without-rest.ensures in
-    (c.lowest-p-in-loop-p.ensures, each_turn item_places _ here.rest here.gone (omega arith) c.loop-p-test.true here.invariant.0 step rest here.invariant.1)
+    walk_starts item_places _ _ c.into_iter-place-iterator.ensures.into_iter_gives c.places-place-items.ensures
+    (whole args.timestamps.now args.present args.bound)
+
+pub loop-place-preserved : goal.loop-place-preserved
+loop-place-preserved c =
+    let here = c.loop-place in
+    let args = c.args in
+    let step = gathers args.timestamps.now args.bound here.gone c.in-Some.place c.at.ensures c.with_if-gone.ensures in
+    walk_turn item_places _ here.gone here.place-iterator c.next.new.self (omega arith) here.invariant.0 c.in-Some.ensures.steps step here.invariant.1
 
 pub returns : goal.returns
 returns c =
-    let here = c.loop-p in
-    each-done item_places _ here.rest c.loop-p-test.false here.invariant.0 here.invariant.1
+    let here = c.loop-place in
+    walk-done item_places _ here.place-iterator c.next.new.self (omega arith) here.invariant.0 c.in-None.ensures.steps here.invariant.1

@@ -4,7 +4,7 @@ use mathlib.Core.Path.{◌≡◌}
 use Prim.Native.Nat.{ℕ}
 use lib.Dec.{ltb}
 use Rattle.words.specs.Places.{each}
-use Rattle.words.specs.Words.{count, has, lowest}
+use Rattle.words.specs.Words.{has}
 use Rattle.words.proofs.Gathered.{gathered}
 use Rattle.tables.specs.Columns.{at, item_places}
 use Rattle.leaving.specs.Leaving.{items_below}
@@ -14,9 +14,8 @@ use Rattle.leaving.proofs.swept.items_below.Given as goal
 unfoldable pub lies_below : List ℕ → ℕ → ℕ → Bool
 lies_below timestamps bound place = ltb (at item_places timestamps place) bound
 
-abbrev pub invariant-loop-p : goal.invariant-loop-p
-invariant-loop-p l =
-    (l.p ≡ lowest l.rest) × (each item_places (has l.rest) (gathered (lies_below l.timestamps l.bound)) l.gone ≡ items_below l.timestamps l.present l.bound)
-
-abbrev pub decreases-loop-p : goal.decreases-loop-p
-decreases-loop-p l = count l.rest
+abbrev pub invariant-loop-place : goal.invariant-loop-place
+invariant-loop-place l =
+    let walk = l.place-iterator in
+    (walk.end ≡ item_places)
+    × (each item_places (has walk.rest) (gathered (lies_below l.timestamps l.bound)) l.gone ≡ items_below l.timestamps l.present l.bound)
