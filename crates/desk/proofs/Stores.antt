@@ -1,96 +1,48 @@
--- The stores of a call, over plain names: what the columns and words hold afterwards is what the definition of the effect says. Assumes nothing.
-use mathlib.Core.Path.{◌≡◌, refl, sym, ap, ◌∙◌}
-use mathlib.Core.Bool.{Bool, true, false, ◌&&◌, not}
+-- What the stores of a call come to, over plain names. Assumes nothing.
+use mathlib.Core.Path.{◌≡◌, refl, sym, ◌∙◌}
+use mathlib.Core.Bool.{Bool, true, false, cond, ◌&&◌, not}
 use mathlib.Core.List.{List}
-use Prim.Native.Nat.{ℕ, min}
+use Prim.Native.Nat.{ℕ, min, ◌≤◌}
+use native.Mathlib.Omega.{arith}
 use native.Mathlib.Nat.{zero-lt-suc}
+use lib.Dec.{leb, ltb}
 use lib.ListN.{set}
+use borrow.Author.Tests.{le-leb, ltb-false}
+use Rattle.std.proofs.Common.{Option, Some, None}
 use Rattle.words.specs.Words.{has, with, without, except}
+use Rattle.words.specs.Places.{lowest_of}
 use Rattle.words.proofs.Laws.{has_none, word_of_is}
 use Rattle.calls.specs.declared.Bound.{Bound}
 use Rattle.calls.specs.declared.Bound.TheVariants.{Weak, Strong}
+use Rattle.calls.specs.States.{is_open}
+use Rattle.calls.specs.declared.State.TheVariants.{Absent, Consumed}
 use Rattle.rows.specs.declared.Connection.{Connection}
-use Rattle.tables.specs.Columns.{set_at, channel_places, connection_places, item_places}
+use Rattle.rows.specs.declared.Found.{Found}
+use Rattle.rows.specs.States.{by_name, place_or_none, state_of}
+use Rattle.tables.specs.Columns.{connection_of, item_places}
+use Rattle.tables.specs.Seen.{is_item, place_if_any, place_of}
 use Rattle.tables.specs.Times.{least_time, least_for}
-use Rattle.leaving.specs.Leaving.{cleared, lessened, raised}
+use Rattle.tables.specs.declared.columns.Seen.{Seen}
 use Rattle.desk.specs.declared.Desk.{Desk}
-use Rattle.desk.specs.Desk.{owned_by, items_in, connection_at, with_threads, with_connections, with_items, with_seen}
+use Rattle.desk.specs.Desk.{SeenOf, connection_at, owned_by, with_connections, with_seen, with_threads}
 use Rattle.desk.specs.Times.{weak_bound, strong_bound}
-use Rattle.desk.specs.Calls.{bound_of, free_item, leaving, freed, ended, stored, becomes_open, consumed_by_name, left, raised_to, swept}
+use Rattle.desk.specs.Calls.{attached_to, becomes_open, bound_of, consumed_by_name, ended, free_connection, freed, unattached}
 
--- ---- a refused call: what was taken out is put back
+-- the bound that a sweep takes
+pub bound_is : (d : Desk) (which : Bound)
+    → min (least_time d.living d.times) (least_for which d.inputs (connection_at d) d.timestamps) ≡ bound_of d which
+unfolding weak_bound strong_bound
+bound_is d Weak = refl
+bound_is d Strong = refl
 
-pub kept_threads : (d : Desk) {self : Desk} {times : List ℕ} → self ≡ d → times ≡ d.times → ◌≡◌ {A = Desk} (with_threads self self.living times) d
-kept_threads d kept times_are = rw (kept, times_are)
-
-pub kept_connections : (d : Desk) {self : Desk} {owned leads marks opened consumed : List ℕ} → self ≡ d → owned ≡ d.owned → leads ≡ d.leads
-    → marks ≡ d.marks → opened ≡ d.opened → consumed ≡ d.consumed
-    → ◌≡◌ {A = Desk} (with_connections self owned self.outputs leads self.inputs marks opened consumed) d
-kept_connections d kept owned_is leads_are marks_are opened_are consumed_are = rw (kept, owned_is, leads_are, marks_are, opened_are, consumed_are)
-
-pub kept_seen : (d : Desk) {self : Desk} {marks opened consumed : List ℕ} → self ≡ d → marks ≡ d.marks → opened ≡ d.opened → consumed ≡ d.consumed
-    → ◌≡◌ {A = Desk} (with_seen self marks opened consumed) d
-kept_seen d kept marks_are opened_are consumed_are = rw (kept, marks_are, opened_are, consumed_are)
-
-pub kept_items : (d : Desk) {self : Desk} {held timestamps tickets : List ℕ} → self ≡ d → held ≡ d.held → timestamps ≡ d.timestamps → tickets ≡ d.tickets
-    → ◌≡◌ {A = Desk} (with_items self self.present held timestamps tickets) d
-kept_items d kept held_is timestamps_are tickets_are = rw (kept, held_is, timestamps_are, tickets_are)
-
--- ---- an accepted call
-
--- put
-pub stored_is : (d : Desk) (timestamp ticket channel place present : ℕ) {at-channel : ℕ} {self : Desk} {held timestamps tickets : List ℕ}
-    → channel ≡ at-channel
-    → place ≡ free_item d
-    → present ≡ with d.present place
-    → self ≡ with_items d present d.held d.timestamps d.tickets
-    → held ≡ set_at channel_places d.held channel (with (items_in d channel) place)
-    → timestamps ≡ set d.timestamps place timestamp
-    → tickets ≡ set d.tickets place ticket
-    → ◌≡◌ {A = Desk} (with_items self self.present held timestamps tickets) (stored d at-channel timestamp ticket)
-unfolding stored
-stored_is d timestamp ticket channel place present leads free joins kept held_is timestamps_are tickets_are =
-    rw (kept, held_is, timestamps_are, tickets_are, joins, free, leads)
-
--- get
-pub opens_is : (d : Desk) (connection place word : ℕ) {at_place : ℕ} {row : Connection} {opened : List ℕ}
-    → row ≡ connection_at d connection
-    → place ≡ at_place
-    → word ≡ with row.opened place
-    → opened ≡ set d.opened connection word
-    → ◌≡◌ {A = Desk} (with_seen d d.marks opened d.consumed) (becomes_open d connection at_place)
-unfolding becomes_open
-opens_is d connection place word reads found joins opened_are = rw (opened_are, joins, found, reads)
-
--- consume
-pub consumes_is : (d : Desk) (connection place : ℕ) {open_word consumed_word : ℕ} {at_place : ℕ} {row : Connection} {opened consumed : List ℕ}
-    → row ≡ connection_at d connection
-    → place ≡ at_place
-    → open_word ≡ without row.opened place
-    → consumed_word ≡ with row.consumed place
-    → opened ≡ set d.opened connection open_word
-    → consumed ≡ set d.consumed connection consumed_word
-    → ◌≡◌ {A = Desk} (with_seen d d.marks opened consumed) (consumed_by_name d connection at_place)
-unfolding consumed_by_name
-consumes_is d connection place reads found leaves joins opened_are consumed_are = rw (opened_are, consumed_are, leaves, joins, found, reads)
-
--- detach
-pub freed_is : (d : Desk) (thread own gone : ℕ) {at_gone word outputs inputs : ℕ} {self : Desk} {owned leads marks opened consumed : List ℕ}
-    → own ≡ owned_by d thread
+-- detach, from what was read
+pub freed_is : (d : Desk) (thread : ℕ) {own gone at_gone word : ℕ} {made : Desk} → own ≡ owned_by d thread
     → gone ≡ at_gone
     → word ≡ except own gone
-    → outputs ≡ except d.outputs gone
-    → inputs ≡ except d.inputs gone
-    → self ≡ with_connections d d.owned outputs d.leads inputs d.marks d.opened d.consumed
-    → owned ≡ set d.owned thread word
-    → leads ≡ cleared connection_places gone d.leads
-    → marks ≡ cleared connection_places gone d.marks
-    → opened ≡ cleared connection_places gone d.opened
-    → consumed ≡ cleared connection_places gone d.consumed
-    → ◌≡◌ {A = Desk} (with_connections self owned self.outputs leads self.inputs marks opened consumed) (freed d thread at_gone)
-unfolding freed
-freed_is d thread own gone owns leaves word_is outputs_are inputs_are kept owned_is leads_are marks_are opened_are consumed_are =
-    rw (kept, owned_is, leads_are, marks_are, opened_are, consumed_are, word_is, outputs_are, inputs_are, owns, leaves)
+    → made ≡ unattached (with_connections d (set d.owned thread word) d.outputs d.leads d.inputs d.marks d.opened d.consumed) gone
+    → ◌≡◌ {A = Desk} made (freed d thread at_gone)
+unfolding freed unattached
+freed_is d thread owns leaves word_is is = rw (is, word_is, owns, leaves)
 
 -- end: no connection is left to the thread
 none_left : (w : ℕ) → except w w ≡ 0
@@ -101,44 +53,79 @@ none_left w = sym (word_of_is (λ i. has w i && not (has w i)) 0 (zero-lt-suc _)
     and_not true = refl
     and_not false = refl
 
-pub ended_is : (d : Desk) (thread gone : ℕ) {living outputs inputs : ℕ} {self : Desk} {times owned leads marks opened consumed : List ℕ}
-    → gone ≡ owned_by d thread
-    → living ≡ without d.living thread
-    → outputs ≡ except d.outputs gone
-    → inputs ≡ except d.inputs gone
-    → self ≡ with_threads (with_connections d d.owned outputs d.leads inputs d.marks d.opened d.consumed) living d.times
-    → times ≡ set d.times thread 0
-    → owned ≡ set d.owned thread 0
-    → leads ≡ cleared connection_places gone d.leads
-    → marks ≡ cleared connection_places gone d.marks
-    → opened ≡ cleared connection_places gone d.opened
-    → consumed ≡ cleared connection_places gone d.consumed
-    → ◌≡◌ {A = Desk} (with_threads (with_connections self owned self.outputs leads self.inputs marks opened consumed) self.living times) (ended d thread)
-unfolding ended
-ended_is d thread gone owns lives outputs_are inputs_are kept times_are owned_is leads_are marks_are opened_are consumed_are =
-    rw (kept, times_are, lives)
-    (ap (λ (x : Desk). with_threads x (without d.living thread) (set d.times thread 0))
-    (freed_is d thread gone gone owns owns (sym (none_left gone)) outputs_are inputs_are refl owned_is leads_are marks_are opened_are consumed_are))
+pub ended_is : (d : Desk) (thread : ℕ) {gone living : ℕ} {made : Desk} → gone ≡ owned_by d thread
+    → made ≡ unattached d gone
+    → living ≡ without made.living thread
+    → ◌≡◌ {A = Desk} (with_threads (with_connections made (set made.owned thread 0) made.outputs made.leads made.inputs made.marks made.opened made.consumed) living (set made.times thread 0))
+    (ended d thread)
+unfolding ended freed unattached
+ended_is d thread owns is lives = rw (lives, is, owns, none_left (owned_by d thread))
 
--- a sweep: the bound, and what it leaves
-pub bound_is : (d : Desk) (which : Bound)
-    → min (least_time d.living d.times) (least_for which d.inputs (connection_at d) d.timestamps) ≡ bound_of d which
-unfolding weak_bound strong_bound
-bound_is d Weak = refl
-bound_is d Strong = refl
+-- attach, from what was read: a word joins where the connection is of its direction
+pub attached_is : (d : Desk) (reads : Bool) (thread channel mark : ℕ) {place own joined inputs outputs : ℕ} → own ≡ owned_by d thread
+    → place ≡ free_connection d
+    → joined ≡ with own place
+    → inputs ≡ cond reads (with d.inputs place) d.inputs
+    → outputs ≡ cond (not reads) (with d.outputs place) d.outputs
+    → ◌≡◌ {A = Desk} (with_connections d (set d.owned thread joined) outputs (set d.leads place channel) inputs (set d.marks place mark) d.opened d.consumed)
+    (attached_to d reads thread channel mark)
+unfolding attached_to
+attached_is d true thread channel mark owns free joins reading writing = rw (joins, reading, writing, owns, free)
+attached_is d false thread channel mark owns free joins reading writing = rw (joins, reading, writing, owns, free)
 
-pub swept_is : (d : Desk) (bound gone present : ℕ) {at_bound : ℕ} {self : Desk} {marks opened consumed held timestamps tickets : List ℕ}
-    → bound ≡ at_bound
-    → gone ≡ leaving d at_bound
-    → present ≡ except d.present gone
-    → self ≡ with_items d present d.held d.timestamps d.tickets
-    → marks ≡ raised d.inputs bound d.marks
-    → opened ≡ lessened connection_places gone d.opened
-    → consumed ≡ lessened connection_places gone d.consumed
-    → held ≡ lessened channel_places gone d.held
-    → timestamps ≡ cleared item_places gone d.timestamps
-    → tickets ≡ cleared item_places gone d.tickets
-    → ◌≡◌ {A = Desk} (with_items (with_seen self marks opened consumed) self.present held timestamps tickets) (swept d at_bound)
-unfolding left raised_to swept
-swept_is d bound gone present bound_is gone_is leave kept marks_are opened_are consumed_are held_is timestamps_are tickets_are =
-    rw (kept, marks_are, opened_are, consumed_are, held_is, timestamps_are, tickets_are, leave, gone_is, bound_is)
+-- ---- what was read of a connection
+
+pub row_is : (d : Desk) (connection : ℕ) {seen : Seen} {row : Connection} → SeenOf d seen → row ≡ connection_of seen connection → row ≡ connection_at d connection
+row_is d connection seen is = rw (seen.leads, seen.held, seen.marks, seen.opened, seen.consumed) at is
+
+-- the place of an item, as the search hands it on
+pub some_place : (place : ℕ) {found : ℕ} → ◌≡◌ {A = Option ℕ} (Some found) (place_if_any place) → found ≡ place
+some_place place {found} = go (ltb place item_places)
+  where
+    go : (inside : Bool) → ◌≡◌ {A = Option ℕ} (Some found) (cond inside (Some place) None) → found ≡ place
+    go true same = cc
+    go false same = absurd (cc)
+
+-- and as the state is asked with it
+pub any_place : (timestamps : List ℕ) (places timestamp : ℕ) → place_or_none (place_if_any (place_of timestamps places timestamp)) ≡ place_of timestamps places timestamp
+unfolding place_of
+any_place timestamps places timestamp =
+    let most : lowest_of (is_item timestamps places timestamp) item_places ≤ item_places = lowest_most _ _ in
+    go (lowest_of (is_item timestamps places timestamp) item_places) most (ltb (lowest_of (is_item timestamps places timestamp) item_places) item_places) refl
+  where
+    go : (place : ℕ) → place ≤ item_places → (inside : Bool) → ltb place item_places ≡ inside → place_or_none (cond inside (Some place) None) ≡ place
+    go place most true e = refl
+    go place most false e = omega (arith, most, ltb-false place item_places e)
+
+-- where there is none, nothing is OPEN
+pub none_open : (row : Connection) (timestamp place : ℕ) → ◌≡◌ {A = Option ℕ} None (place_if_any place) → is_open (state_of row timestamp place) ≡ false
+unfolding state_of
+none_open row timestamp place = go (ltb place item_places) refl
+  where
+    past : (below : Bool) → is_open (cond below Consumed Absent) ≡ false
+    past true = refl
+    past false = refl
+
+    go : (inside : Bool) → ltb place item_places ≡ inside → ◌≡◌ {A = Option ℕ} None (cond inside (Some place) None)
+        → is_open
+        (cond (ltb timestamp row.mark) Consumed (cond (leb item_places place) Absent (by_name (has row.opened place) (has row.consumed place))))
+        ≡ false
+    go true e same = absurd (cc)
+    go false e same = rw (le-leb item_places place (ltb-false place item_places e)) (past (ltb timestamp row.mark))
+
+-- get, from what was found
+pub opens_is : (d : Desk) (connection : ℕ) (found : Found) {at_place : ℕ} {word : ℕ} {row : Connection} → row ≡ connection_at d connection
+    → found.place ≡ at_place
+    → word ≡ with row.opened found.place
+    → ◌≡◌ {A = Desk} (with_seen d d.marks (set d.opened connection word) d.consumed) (becomes_open d connection at_place)
+unfolding becomes_open
+opens_is d connection found reads is joins = rw (joins, is, reads)
+
+-- consume
+pub consumes_is : (d : Desk) (connection : ℕ) {place open_word consumed_word at_place : ℕ} {row : Connection} → row ≡ connection_at d connection
+    → place ≡ at_place
+    → open_word ≡ without row.opened place
+    → consumed_word ≡ with row.consumed place
+    → ◌≡◌ {A = Desk} (with_seen d d.marks (set d.opened connection open_word) (set d.consumed connection consumed_word)) (consumed_by_name d connection at_place)
+unfolding consumed_by_name
+consumes_is d connection reads found leaves joins = rw (leaves, joins, found, reads)

@@ -1,6 +1,6 @@
 -- Document 01, "Calls, and the order of their checks" and "Sweeps": each call as its refusals in order, its effect, and what it tells.
 -- Assumes nothing.
-use Rattle.std.specs.Prelude.{Bool, true, false, cond, List, [], ◌∷◌, ℕ, ◌+◌, max, leb, ltb, length, set}
+use Rattle.std.specs.Prelude.{Bool, true, false, cond, List, [], ◌∷◌, ℕ, ◌+◌, max, leb, ltb, length, set, Option, Result}
 use Rattle.words.specs.Words.{with, without, except, lowest_free, count}
 use Rattle.calls.specs.declared.Bound.{Bound}
 use Rattle.calls.specs.declared.Bound.TheVariants.{Weak, Strong}
@@ -11,7 +11,9 @@ use Rattle.calls.specs.declared.Which.TheVariants.{Earliest, Latest, Named}
 use Rattle.calls.specs.Calls.{Call, by, sweep}
 use Rattle.calls.specs.States.{is_open}
 use Rattle.rows.specs.declared.Found.{Found}
-use Rattle.rows.specs.Answers.{Told, tells, answer, refusal, Check, needs, passes, decided}
+use Rattle.rows.specs.declared.Refusal.{Refusal}
+use Rattle.rows.specs.declared.Told.{Told}
+use Rattle.rows.specs.Answers.{tells, answer, answered, refusal, Check, needs, passes, decided}
 use Rattle.rows.specs.Choices.{is_found, place_found, timestamp_found}
 use Rattle.rows.specs.Numbers.{never}
 use Rattle.tables.specs.Columns.{set_at, thread_places, channel_places, connection_places, item_places}
@@ -85,7 +87,7 @@ place_free place places = needs (ltb place places) (refusal 9)
 
 -- 10: "no UNSEEN item that fits"
 -- what a get finds
-abbrev pub sought_by : Desk → ℕ → Which → Found
+abbrev pub sought_by : Desk → ℕ → Which → Option Found
 sought_by d connection which = sought d.timestamps (connection_at d connection) which
 
 abbrev pub item_found : Desk → ℕ → Which → Check
@@ -134,6 +136,18 @@ attached_to d reads thread channel mark =
     (set d.marks (free_connection d) mark)
     d.opened
     d.consumed
+
+-- some connections freed, whose ever they were
+unfoldable pub unattached : Desk → (gone : ℕ) → Desk
+unattached d gone =
+    with_connections d
+    d.owned
+    (except d.outputs gone)
+    (cleared connection_places gone d.leads)
+    (except d.inputs gone)
+    (cleared connection_places gone d.marks)
+    (cleared connection_places gone d.opened)
+    (cleared connection_places gone d.consumed)
 
 -- some of the thread's connections freed
 unfoldable pub freed : Desk → (thread gone : ℕ) → Desk
@@ -196,7 +210,7 @@ swept d bound = raised_to (left d (leaving d bound)) bound
 -- ---- the calls
 
 -- "ticket, timestamp"
-abbrev pub found_told : Desk → Found → Told
+abbrev pub found_told : Desk → Option Found → Told
 found_told d found = tells (ticket_at d (place_found found)) (timestamp_found found)
 
 -- a row of 01's table: the refusals in order; and of an accepted call the effect, and the value and the time that it tells
@@ -290,6 +304,10 @@ told d (sweep bound slice) = (sweep_row d (bound_of d bound) slice).told
 -- the answer, and the next desk, which is the given one where no refusal is the case. A refusal "leaves the desk and the slice as they were".
 unfoldable pub outcome : Desk → List Check → Told → Desk → Next
 outcome d tests says next = record { answer = decided tests says; desk = cond (passes tests) next d }
+
+-- what the code of a call came to, which changes the desk in place: told or refused, and the desk then
+abbrev pub came_to : Result Told Refusal → Desk → Next
+came_to outcome desk = record { answer = answered outcome; desk = desk }
 
 -- what a call does, accepted or refused: every contract of a call is an equality with this
 unfoldable pub step : Desk → Call → Next

@@ -1,9 +1,10 @@
 -- Document 01, "What the desk is" and "Numbers": the desk's columns and words, what they say of a thread, a channel, a connection and an item, and the
 -- fresh desk. Assumes nothing.
-use Rattle.std.specs.Prelude.{Bool, List, ℕ, replicate}
+use Rattle.std.specs.Prelude.{Bool, List, ◌≡◌, ℕ, replicate}
 use Rattle.words.specs.Words.{both, either}
 use Rattle.rows.specs.declared.Connection.{Connection}
 use Rattle.tables.specs.Columns.{at, in_use, connection_in, thread_places, channel_places, connection_places, item_places}
+use Rattle.tables.specs.declared.columns.Seen.{Seen}
 use Rattle.desk.specs.declared.Desk.{Desk}
 
 -- "The desk keeps threads (reading programs), channels, connections and items."
@@ -51,6 +52,15 @@ leads_to d connection = at connection_places d.leads connection
 
 abbrev pub connection_at : Desk → ℕ → Connection
 connection_at d connection = connection_in d.leads d.held d.marks d.opened d.consumed connection
+
+-- the columns of which that is read, lent by the code together
+pub record SeenOf (d : Desk) (seen : Seen) : Type 0 where
+  pub leads : seen.leads.now ≡ d.leads
+  pub held : seen.held.now ≡ d.held
+  pub marks : seen.marks.now ≡ d.marks
+  pub opened : seen.opened.now ≡ d.opened
+  pub consumed : seen.consumed.now ≡ d.consumed
+  pub timestamps : seen.timestamps.now ≡ d.timestamps
 
 -- the timestamp and the ticket of the item in a place
 abbrev pub timestamp_at : Desk → ℕ → ℕ

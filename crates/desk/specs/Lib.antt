@@ -3,6 +3,5 @@
 pub mod Desk
 pub mod Times
 pub mod Calls
-pub mod Codes
 pub mod Questions
 pub mod Cases

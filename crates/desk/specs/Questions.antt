@@ -3,7 +3,8 @@ use Rattle.std.specs.Prelude.{List, [], ◌∷◌, ℕ}
 use Rattle.calls.specs.Questions.{Question, ask_visible_time, ask_weak_bound, ask_strong_bound, ask_state_of, ask_items_present}
 use Rattle.calls.specs.States.{state_number}
 use Rattle.rows.specs.declared.Answer.{Answer}
-use Rattle.rows.specs.Answers.{Told, tells, refusal, Check, needs, decided}
+use Rattle.rows.specs.declared.Told.{Told}
+use Rattle.rows.specs.Answers.{tells, refusal, Check, needs, decided}
 use Rattle.tables.specs.Seen.{state}
 use Rattle.desk.specs.declared.Desk.{Desk}
 use Rattle.desk.specs.Desk.{connection_at, is_connection}

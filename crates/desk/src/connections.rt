@@ -2,81 +2,84 @@
 ghost use Rattle.std.specs.Prelude.{◌≡◌};
 ghost use Rattle.calls.specs.Calls.{attach_input, attach_output, detach};
 ghost use Rattle.rows.specs.Answers.{tells};
-ghost use Rattle.desk.specs.Calls.{attached_to, checks, free_connection, outcome, step};
+ghost use Rattle.desk.specs.Calls.{attached_to, came_to, checks, free_connection, outcome, step, unattached};
 
+use crate::checks::place_free;
 use crate::{Desk, Next};
-use leaving::freed::{clear_numbers, clear_words};
-use rows::Answer;
-use rows::answers::needs;
-use tables::columns::owned_at;
-use tables::places::in_use;
+use leaving::freed::clear;
+use rows::{Answer, Refusal, Told};
+use tables::columns::at;
 
 impl Desk {
-    // A new connection in the lowest free place: an input with this mark, or an output.
-    fn attach(mut self, thread: u32, channel: u32, reads: bool, mark: u32) -> Next
-        ensures { result ≡ outcome self (checks self (attach_output thread channel)) (tells (free_connection self) mark) (attached_to self reads thread channel mark) }
+    pub fn attach_input(mut self, thread: u32, channel: u32) -> Next
+        ensures { result ≡ step self (attach_input thread channel) }
     {
-        let mut owned = self.owned;
-        let mut leads = self.leads;
-        let mut marks = self.marks;
-        let place = words::lowest_free(words::either(self.inputs, self.outputs));
-        let code = needs(0, in_use(self.living, thread, Desk::THREADS), 1);
-        let code = needs(code, in_use(self.channels, channel, Desk::CHANNELS), 2);
-        let code = needs(code, place < Desk::CONNECTIONS, 9);
-        let answer = Answer::with_code(code, place as u64, mark);
-        if code == 0 {
-            owned[thread as usize] = words::with(owned[thread as usize], place);
-            leads[place as usize] = channel;
-            marks[place as usize] = mark;
-            self.inputs = words::with_if(reads, self.inputs, place);
-            self.outputs = words::with_if(!reads, self.outputs, place);
-        }
-        self.owned = owned;
-        self.leads = leads;
-        self.marks = marks;
+        let mark = self.visible(thread);
+        let answer = Answer::from(self.try_attach(thread, channel, true, mark));
         Next { answer, desk: self }
     }
 
-    pub fn attach_input(self, thread: u32, channel: u32) -> Next
-        ensures { result ≡ step self (attach_input thread channel) }
-    {
-        let visible = self.visible(thread);
-        self.attach(thread, channel, true, visible)
-    }
-
-    pub fn attach_output(self, thread: u32, channel: u32) -> Next
+    pub fn attach_output(mut self, thread: u32, channel: u32) -> Next
         ensures { result ≡ step self (attach_output thread channel) }
     {
-        self.attach(thread, channel, false, 0)
+        let answer = Answer::from(self.try_attach(thread, channel, false, 0));
+        Next { answer, desk: self }
     }
 
     pub fn detach(mut self, thread: u32, connection: u32) -> Next
         ensures { result ≡ step self (detach thread connection) }
     {
-        let mut owned = self.owned;
-        let mut leads = self.leads;
-        let mut marks = self.marks;
-        let mut opened = self.opened;
-        let mut consumed = self.consumed;
-        let own = owned_at(&owned, thread);
-        let code = needs(0, in_use(self.living, thread, Desk::THREADS), 1);
-        let code = needs(code, in_use(own, connection, Desk::CONNECTIONS), 3);
-        let answer = Answer::with_code(code, 0, 0);
-        if code == 0 {
-            let gone = words::with(0, connection);
-            owned[thread as usize] = words::except(own, gone);
-            self.outputs = words::except(self.outputs, gone);
-            clear_numbers(&mut leads, gone);
-            self.inputs = words::except(self.inputs, gone);
-            clear_numbers(&mut marks, gone);
-            clear_words(&mut opened, gone);
-            clear_words(&mut consumed, gone);
-        }
-        self.owned = owned;
-        self.leads = leads;
-        self.marks = marks;
-        self.opened = opened;
-        self.consumed = consumed;
+        let answer = Answer::from(self.try_detach(thread, connection));
         Next { answer, desk: self }
+    }
+
+    // A new connection in the lowest free place: an input with this mark, or an output.
+    fn try_attach(
+        &mut self,
+        thread: u32,
+        channel: u32,
+        reads: bool,
+        mark: u32,
+    ) -> Result<Told, Refusal>
+        ensures { came_to result self.new ≡ outcome self.old (checks self.old (attach_output thread channel)) (tells (free_connection self.old) mark) (attached_to self.old reads thread channel mark) }
+    {
+        self.thread_lives(thread)?;
+        self.channel_exists(channel)?;
+        let place = words::lowest_free(words::either(self.inputs, self.outputs));
+        place_free(place, Desk::CONNECTIONS)?;
+        let own = at(&self.owned, thread);
+        self.owned[thread as usize] = words::with(own, place);
+        self.leads[place as usize] = channel;
+        self.marks[place as usize] = mark;
+        self.inputs = words::with_if(reads, self.inputs, place);
+        self.outputs = words::with_if(!reads, self.outputs, place);
+        Ok(Told {
+            value: place as u64,
+            time: mark,
+        })
+    }
+
+    fn try_detach(&mut self, thread: u32, connection: u32) -> Result<Told, Refusal>
+        ensures { came_to result self.new ≡ step self.old (detach thread connection) }
+    {
+        self.thread_lives(thread)?;
+        self.connection_owned(thread, connection)?;
+        let own = at(&self.owned, thread);
+        let gone = words::with(0, connection);
+        self.owned[thread as usize] = words::except(own, gone);
+        self.free_connections(gone);
+        Ok(Told { value: 0, time: 0 })
+    }
+
+    // The places of some connections are free, whose ever they were.
+    pub(crate) fn free_connections(&mut self, gone: u64)
+        ensures { self.new ≡ unattached self.old gone }
+    {
+        self.outputs = words::except(self.outputs, gone);
+        clear(&mut self.leads, gone);
+        self.inputs = words::except(self.inputs, gone);
+        clear(&mut self.marks, gone);
+        clear(&mut self.opened, gone);
+        clear(&mut self.consumed, gone);
     }
 }

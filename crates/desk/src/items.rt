@@ -1,128 +1,124 @@
 // The calls on items: put, get, consume, consume until.
 ghost use Rattle.std.specs.Prelude.{◌≡◌};
 ghost use Rattle.calls.specs.Calls.{put, get, consume, consume_until};
-ghost use Rattle.desk.specs.Calls.{step, is_given};
+ghost use Rattle.desk.specs.Calls.{came_to, step};
 
-use crate::{Desk, Next, connection_code};
+use crate::checks::{timestamp_given, which_given};
+use crate::{Desk, Next};
 use calls::Which;
-use rows::Answer;
 use rows::answers::needs;
-use rows::times::larger;
-use tables::columns::{connection_at, held_at, hold, number_at, owned_at, ticket_at, time_at};
+use rows::{Answer, Refusal, Told};
+use tables::columns::{at, hold};
 use tables::search::{place_of, seek};
-use tables::times::least_open;
-
-// Whether a get that names a timestamp names one that is not never.
-fn is_given(which: Which) -> bool
-    ensures { result ≡ is_given which }
-{
-    match which {
-        Which::Earliest => true,
-        Which::Latest => true,
-        Which::Named(timestamp) => timestamp <= Desk::LARGEST_TIMESTAMP,
-    }
-}
 
 impl Desk {
     pub fn put(mut self, thread: u32, connection: u32, timestamp: u32, ticket: u64) -> Next
         ensures { result ≡ step self (put thread connection timestamp ticket) }
     {
-        let times = self.times;
-        let owned = self.owned;
-        let leads = self.leads;
-        let marks = self.marks;
-        let opened = self.opened;
-        let mut held = self.held;
-        let mut timestamps = self.timestamps;
-        let mut tickets = self.tickets;
-        let readers = words::both(self.inputs, owned_at(&owned, thread));
-        let time = time_at(&times, thread);
-        let visible = least_open(readers, time, &leads, &held, &marks, &opened, &timestamps);
-        let channel = number_at(&leads, connection);
-        let same = place_of(&timestamps, held_at(&held, channel), timestamp);
-        let place = words::lowest_free(self.present);
-        let number = words::count(self.present);
-        let code = connection_code(self.living, &owned, self.outputs, thread, connection);
-        let code = needs(code, timestamp < Desk::NEVER, 5);
-        let code = needs(code, visible <= timestamp, 6);
-        let code = needs(code, Desk::ITEMS <= same, 7);
-        let code = needs(code, number < Desk::ITEMS, 8);
-        let answer = Answer::with_code(code, 0, 0);
-        if code == 0 {
-            hold(&mut held, channel, place);
-            timestamps[place as usize] = timestamp;
-            tickets[place as usize] = ticket;
-            self.present = words::with(self.present, place);
-        }
-        self.held = held;
-        self.timestamps = timestamps;
-        self.tickets = tickets;
+        let answer = Answer::from(self.try_put(thread, connection, timestamp, ticket));
         Next { answer, desk: self }
     }
 
     pub fn get(mut self, thread: u32, connection: u32, which: Which) -> Next
         ensures { result ≡ step self (get thread connection which) }
     {
-        let owned = self.owned;
-        let leads = self.leads;
-        let marks = self.marks;
-        let mut opened = self.opened;
-        let consumed = self.consumed;
-        let held = self.held;
-        let timestamps = self.timestamps;
-        let tickets = self.tickets;
-        let row = connection_at(&leads, &held, &marks, &opened, &consumed, connection);
-        let found = seek(&timestamps, row, which);
-        let code = connection_code(self.living, &owned, self.inputs, thread, connection);
-        let code = needs(code, is_given(which), 5);
-        let code = needs(code, found.is_found(), 10);
-        let place = found.place();
-        let answer = Answer::with_code(code, ticket_at(&tickets, place), found.timestamp());
-        if code == 0 {
-            opened[connection as usize] = words::with(row.opened, place);
-        }
-        self.opened = opened;
+        let answer = Answer::from(self.try_get(thread, connection, which));
         Next { answer, desk: self }
     }
 
     pub fn consume(mut self, thread: u32, connection: u32, timestamp: u32) -> Next
         ensures { result ≡ step self (consume thread connection timestamp) }
     {
-        let owned = self.owned;
-        let leads = self.leads;
-        let marks = self.marks;
-        let mut opened = self.opened;
-        let mut consumed = self.consumed;
-        let held = self.held;
-        let timestamps = self.timestamps;
-        let row = connection_at(&leads, &held, &marks, &opened, &consumed, connection);
-        let place = place_of(&timestamps, row.items, timestamp);
-        let code = connection_code(self.living, &owned, self.inputs, thread, connection);
-        let code = needs(code, timestamp < Desk::NEVER, 5);
-        let code = needs(code, row.state_of(timestamp, place).is_open(), 11);
-        let answer = Answer::with_code(code, 0, 0);
-        if code == 0 {
-            opened[connection as usize] = words::without(row.opened, place);
-            consumed[connection as usize] = words::with(row.consumed, place);
-        }
-        self.opened = opened;
-        self.consumed = consumed;
+        let answer = Answer::from(self.try_consume(thread, connection, timestamp));
         Next { answer, desk: self }
     }
 
     pub fn consume_until(mut self, thread: u32, connection: u32, timestamp: u32) -> Next
         ensures { result ≡ step self (consume_until thread connection timestamp) }
     {
-        let owned = self.owned;
-        let mut marks = self.marks;
-        let mark = number_at(&marks, connection);
-        let code = connection_code(self.living, &owned, self.inputs, thread, connection);
-        let code = needs(code, timestamp < Desk::NEVER, 5);
-        let answer = Answer::with_code(code, 0, 0);
-        if code == 0 {
-            marks[connection as usize] = larger(mark, timestamp + 1);
-        }
-        self.marks = marks;
+        let answer = Answer::from(self.try_consume_until(thread, connection, timestamp));
         Next { answer, desk: self }
+    }
+
+    fn try_put(
+        &mut self,
+        thread: u32,
+        connection: u32,
+        timestamp: u32,
+        ticket: u64,
+    ) -> Result<Told, Refusal>
+        ensures { came_to result self.new ≡ step self.old (put thread connection timestamp ticket) }
+    {
+        self.thread_lives(thread)?;
+        self.connection_owned(thread, connection)?;
+        self.connection_writes(connection)?;
+        timestamp_given(timestamp)?;
+        self.time_visible(thread, timestamp)?;
+        self.timestamp_absent(connection, timestamp)?;
+        self.item_fits()?;
+        let channel = at(&self.leads, connection);
+        let place = words::lowest_free(self.present);
+        self.present = words::with(self.present, place);
+        hold(&mut self.held, channel, place);
+        self.timestamps[place as usize] = timestamp;
+        self.tickets[place as usize] = ticket;
+        Ok(Told { value: 0, time: 0 })
+    }
+
+    fn try_get(&mut self, thread: u32, connection: u32, which: Which) -> Result<Told, Refusal>
+        ensures { came_to result self.new ≡ step self.old (get thread connection which) }
+    {
+        self.thread_lives(thread)?;
+        self.connection_owned(thread, connection)?;
+        self.connection_reads(connection)?;
+        which_given(which)?;
+        let row = self.seen().connection(connection);
+        // 10
+        let Some(found) = seek(&self.timestamps, row, which) else {
+            return Err(Refusal::NothingUnseen);
+        };
+        self.opened[connection as usize] = words::with(row.opened, found.place);
+        Ok(Told {
+            value: at(&self.tickets, found.place),
+            time: found.timestamp,
+        })
+    }
+
+    fn try_consume(&mut self, thread: u32, connection: u32, timestamp: u32) -> Result<Told, Refusal>
+        ensures { came_to result self.new ≡ step self.old (consume thread connection timestamp) }
+    {
+        self.thread_lives(thread)?;
+        self.connection_owned(thread, connection)?;
+        self.connection_reads(connection)?;
+        timestamp_given(timestamp)?;
+        let row = self.seen().connection(connection);
+        // 11
+        let Some(place) = place_of(&self.timestamps, row.items, timestamp) else {
+            return Err(Refusal::NotOpen);
+        };
+        needs(
+            row.state_of(timestamp, Some(place)).is_open(),
+            Refusal::NotOpen,
+        )?;
+        self.opened[connection as usize] = words::without(row.opened, place);
+        self.consumed[connection as usize] = words::with(row.consumed, place);
+        Ok(Told { value: 0, time: 0 })
+    }
+
+    fn try_consume_until(
+        &mut self,
+        thread: u32,
+        connection: u32,
+        timestamp: u32,
+    ) -> Result<Told, Refusal>
+        ensures { came_to result self.new ≡ step self.old (consume_until thread connection timestamp) }
+    {
+        self.thread_lives(thread)?;
+        self.connection_owned(thread, connection)?;
+        self.connection_reads(connection)?;
+        timestamp_given(timestamp)?;
+        let mark = at(&self.marks, connection);
+        self.marks[connection as usize] = mark.max(timestamp + 1);
+        Ok(Told { value: 0, time: 0 })
     }
 }

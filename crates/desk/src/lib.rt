@@ -2,16 +2,16 @@
 #![tactic(auto)]
 
 ghost use Rattle.std.specs.Prelude.{◌≡◌};
-ghost use Rattle.desk.specs.Desk.{fresh};
-ghost use Rattle.desk.specs.Codes.{connection_code};
+ghost use Rattle.desk.specs.Desk.{SeenOf, fresh};
+ghost use Rattle.desk.specs.Calls.{bound_of};
 ghost use Rattle.desk.specs.Times.{visible_time};
 
+use calls::Bound;
 use rows::Answer;
-use rows::answers::needs;
-use tables::columns::{Held, Numbers, Owned, Tickets, Times, Timestamps, Words, owned_at, time_at};
-use tables::places::in_use;
-use tables::times::least_open;
+use tables::columns::{Held, Numbers, Owned, Seen, Tickets, Times, Timestamps, Words, at};
+use tables::times::least_time;
 
+mod checks;
 mod connections;
 mod items;
 mod questions;
@@ -20,8 +20,7 @@ mod threads;
 
 // Each fact stands once. Of threads: virtual times, who is living, whose connections are whose. Of connections: which write, the channel that
 // each leads to, which read, their marks and the two facts. Which channels exist. Of items: in which places one lies, which of these each
-// channel holds, timestamps and tickets. A call that changes a column takes it out of the desk once and puts it back; the columns that change
-// together stand together, as what lies between is copied along.
+// channel holds, timestamps and tickets. A host in C sees the columns in this order.
 #[repr(C)]
 #[derive(Clone, Copy)]
 pub struct Desk {
@@ -47,16 +46,6 @@ pub struct Desk {
 pub struct Next {
     pub answer: Answer,
     pub desk: Desk,
-}
-
-// The checks 1, 3 and 4, which come first in each call through a connection: the thread lives, the connection is its own, and goes this way.
-fn connection_code(living: u64, owned: &Owned, way: u64, thread: u32, connection: u32) -> u32
-    ensures { result ≡ connection_code living owned.now way thread connection }
-{
-    let own = owned_at(owned, thread);
-    let code = needs(0, in_use(living, thread, Desk::THREADS), 1);
-    let code = needs(code, in_use(own, connection, Desk::CONNECTIONS), 3);
-    needs(code, in_use(way, connection, Desk::CONNECTIONS), 4)
 }
 
 impl Desk {
@@ -94,19 +83,34 @@ impl Desk {
         }
     }
 
-    // The smallest of the thread's virtual time and of all timestamps OPEN on its input connections.
-    fn visible(self, thread: u32) -> u32
-        ensures { result ≡ visible_time self thread }
+    // The columns that tell what the connections have seen.
+    fn seen(&self) -> Seen<'_>
+        ensures { SeenOf self.now result }
     {
-        let times = self.times;
-        let owned = self.owned;
-        let leads = self.leads;
-        let marks = self.marks;
-        let opened = self.opened;
-        let held = self.held;
-        let timestamps = self.timestamps;
-        let readers = words::both(self.inputs, owned_at(&owned, thread));
-        let time = time_at(&times, thread);
-        least_open(readers, time, &leads, &held, &marks, &opened, &timestamps)
+        Seen {
+            leads: &self.leads,
+            held: &self.held,
+            marks: &self.marks,
+            opened: &self.opened,
+            consumed: &self.consumed,
+            timestamps: &self.timestamps,
+        }
+    }
+
+    // The smallest of the thread's virtual time and of all timestamps OPEN on its input connections.
+    fn visible(&self, thread: u32) -> u32
+        ensures { result ≡ visible_time self.now thread }
+    {
+        let readers = words::both(self.inputs, at(&self.owned, thread));
+        let time = at(&self.times, thread);
+        self.seen().least_open(readers, time)
+    }
+
+    // The bound that a sweep takes.
+    fn bound(&self, which: Bound) -> u32
+        ensures { result ≡ bound_of self.now which }
+    {
+        let time = least_time(self.living, &self.times);
+        self.seen().least_for(which, self.inputs, time)
     }
 }

@@ -1,67 +1,54 @@
 // The two sweeps.
 ghost use Rattle.std.specs.Prelude.{◌≡◌};
 ghost use Rattle.calls.specs.Calls.{sweep};
-ghost use Rattle.desk.specs.Calls.{slice_after, step};
+ghost use Rattle.desk.specs.Calls.{came_to, leaving, left, slice_after, step};
 
 use crate::{Desk, Next};
 use calls::Bound;
-use leaving::freed::{clear_tickets, clear_timestamps};
+use leaving::freed::clear;
 use leaving::handed::hand_back;
-use leaving::swept::{items_below, lessen_held, lessen_words, raise_marks};
-use rows::Answer;
+use leaving::swept::{items_below, lessen, raise_marks};
 use rows::answers::needs;
-use tables::times::{least_for, least_time};
+use rows::{Answer, Refusal, Told};
 
 impl Desk {
     // The items below the bound leave, and with them their facts on every connection; then the marks are raised.
     pub fn sweep(mut self, which: Bound, slice: &mut [u64]) -> Next
         ensures { (result ≡ step self (sweep which slice.old)) × (slice.new ≡ slice_after self (sweep which slice.old)) }
     {
-        let times = self.times;
-        let leads = self.leads;
-        let mut marks = self.marks;
-        let mut opened = self.opened;
-        let mut consumed = self.consumed;
-        let mut held = self.held;
-        let mut timestamps = self.timestamps;
-        let mut tickets = self.tickets;
-        let time = least_time(self.living, &times);
-        let bound = least_for(
-            which,
-            self.inputs,
-            time,
-            &leads,
-            &held,
-            &marks,
-            &opened,
-            &consumed,
-            &timestamps,
-        );
-        let gone = items_below(&timestamps, self.present, bound);
-        let number = words::count(gone);
-        let code = needs(0, number as usize <= slice.len(), 12);
-        let short = Answer {
-            code: 12,
-            value: number as u64,
-            time: 0,
-        };
-        let answer = Answer::with_code(code, number as u64, bound).telling(short);
-        hand_back(&timestamps, &tickets, &held, gone, slice);
-        if code == 0 {
-            lessen_words(&mut opened, gone);
-            lessen_words(&mut consumed, gone);
-            self.present = words::except(self.present, gone);
-            lessen_held(&mut held, gone);
-            clear_timestamps(&mut timestamps, gone);
-            clear_tickets(&mut tickets, gone);
-            raise_marks(&mut marks, self.inputs, bound);
-        }
-        self.marks = marks;
-        self.opened = opened;
-        self.consumed = consumed;
-        self.held = held;
-        self.timestamps = timestamps;
-        self.tickets = tickets;
+        let answer = Answer::from(self.try_sweep(which, slice));
         Next { answer, desk: self }
+    }
+
+    fn try_sweep(&mut self, which: Bound, slice: &mut [u64]) -> Result<Told, Refusal>
+        ensures { (came_to result self.new ≡ step self.old (sweep which slice.old)) × (slice.new ≡ slice_after self.old (sweep which slice.old)) }
+    {
+        let bound = self.bound(which);
+        let gone = items_below(&self.timestamps, self.present, bound);
+        let number = words::count(gone);
+        hand_back(&self.timestamps, &self.tickets, &self.held, gone, slice);
+        // 12
+        needs(
+            number as usize <= slice.len(),
+            Refusal::SliceTooShort(number),
+        )?;
+        self.let_leave(gone);
+        raise_marks(&mut self.marks, self.inputs, bound);
+        Ok(Told {
+            value: number as u64,
+            time: bound,
+        })
+    }
+
+    // The items in some places leave, and their facts on every connection.
+    fn let_leave(&mut self, gone: u64)
+        ensures { self.new ≡ left self.old gone }
+    {
+        lessen(&mut self.opened, gone);
+        lessen(&mut self.consumed, gone);
+        self.present = words::except(self.present, gone);
+        lessen(&mut self.held, gone);
+        clear(&mut self.timestamps, gone);
+        clear(&mut self.tickets, gone);
     }
 }

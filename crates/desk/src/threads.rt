@@ -1,91 +1,88 @@
 // The calls on channels and threads: channel, new thread, end, set.
 ghost use Rattle.std.specs.Prelude.{◌≡◌};
 ghost use Rattle.calls.specs.Calls.{new_channel, new_thread, end, set_time};
-ghost use Rattle.desk.specs.Calls.{step};
+ghost use Rattle.desk.specs.Calls.{came_to, step};
 
+use crate::checks::place_free;
 use crate::{Desk, Next};
-use leaving::freed::{clear_numbers, clear_words};
-use rows::Answer;
-use rows::answers::needs;
-use tables::columns::owned_at;
-use tables::places::in_use;
+use rows::{Answer, Refusal, Told};
+use tables::columns::at;
 
 impl Desk {
     pub fn channel(mut self, thread: u32) -> Next
         ensures { result ≡ step self (new_channel thread) }
     {
-        let place = words::lowest_free(self.channels);
-        let code = needs(0, in_use(self.living, thread, Desk::THREADS), 1);
-        let code = needs(code, place < Desk::CHANNELS, 9);
-        let answer = Answer::with_code(code, place as u64, 0);
-        if code == 0 {
-            self.channels = words::with(self.channels, place);
-        }
+        let answer = Answer::from(self.try_channel(thread));
         Next { answer, desk: self }
     }
 
     pub fn new_thread(mut self, thread: u32, time: u32) -> Next
         ensures { result ≡ step self (new_thread thread time) }
     {
-        let mut times = self.times;
-        let visible = self.visible(thread);
-        let place = words::lowest_free(self.living);
-        let code = needs(0, in_use(self.living, thread, Desk::THREADS), 1);
-        let code = needs(code, visible <= time, 6);
-        let code = needs(code, place < Desk::THREADS, 9);
-        let answer = Answer::with_code(code, place as u64, 0);
-        if code == 0 {
-            times[place as usize] = time;
-            self.living = words::with(self.living, place);
-        }
-        self.times = times;
+        let answer = Answer::from(self.try_new_thread(thread, time));
         Next { answer, desk: self }
     }
 
     pub fn end(mut self, thread: u32) -> Next
         ensures { result ≡ step self (end thread) }
     {
-        let mut times = self.times;
-        let mut owned = self.owned;
-        let mut leads = self.leads;
-        let mut marks = self.marks;
-        let mut opened = self.opened;
-        let mut consumed = self.consumed;
-        let gone = owned_at(&owned, thread);
-        let code = needs(0, in_use(self.living, thread, Desk::THREADS), 1);
-        let answer = Answer::with_code(code, 0, 0);
-        if code == 0 {
-            times[thread as usize] = 0;
-            self.living = words::without(self.living, thread);
-            owned[thread as usize] = 0;
-            self.outputs = words::except(self.outputs, gone);
-            clear_numbers(&mut leads, gone);
-            self.inputs = words::except(self.inputs, gone);
-            clear_numbers(&mut marks, gone);
-            clear_words(&mut opened, gone);
-            clear_words(&mut consumed, gone);
-        }
-        self.times = times;
-        self.owned = owned;
-        self.leads = leads;
-        self.marks = marks;
-        self.opened = opened;
-        self.consumed = consumed;
+        let answer = Answer::from(self.try_end(thread));
         Next { answer, desk: self }
     }
 
     pub fn set(mut self, thread: u32, time: u32) -> Next
         ensures { result ≡ step self (set_time thread time) }
     {
-        let mut times = self.times;
-        let visible = self.visible(thread);
-        let code = needs(0, in_use(self.living, thread, Desk::THREADS), 1);
-        let code = needs(code, visible <= time, 6);
-        let answer = Answer::with_code(code, 0, 0);
-        if code == 0 {
-            times[thread as usize] = time;
-        }
-        self.times = times;
+        let answer = Answer::from(self.try_set(thread, time));
         Next { answer, desk: self }
+    }
+
+    fn try_channel(&mut self, thread: u32) -> Result<Told, Refusal>
+        ensures { came_to result self.new ≡ step self.old (new_channel thread) }
+    {
+        self.thread_lives(thread)?;
+        let place = words::lowest_free(self.channels);
+        place_free(place, Desk::CHANNELS)?;
+        self.channels = words::with(self.channels, place);
+        Ok(Told {
+            value: place as u64,
+            time: 0,
+        })
+    }
+
+    fn try_new_thread(&mut self, thread: u32, time: u32) -> Result<Told, Refusal>
+        ensures { came_to result self.new ≡ step self.old (new_thread thread time) }
+    {
+        self.thread_lives(thread)?;
+        self.time_visible(thread, time)?;
+        let place = words::lowest_free(self.living);
+        place_free(place, Desk::THREADS)?;
+        self.times[place as usize] = time;
+        self.living = words::with(self.living, place);
+        Ok(Told {
+            value: place as u64,
+            time: 0,
+        })
+    }
+
+    fn try_end(&mut self, thread: u32) -> Result<Told, Refusal>
+        ensures { came_to result self.new ≡ step self.old (end thread) }
+    {
+        self.thread_lives(thread)?;
+        let gone = at(&self.owned, thread);
+        self.free_connections(gone);
+        self.owned[thread as usize] = 0;
+        self.times[thread as usize] = 0;
+        self.living = words::without(self.living, thread);
+        Ok(Told { value: 0, time: 0 })
+    }
+
+    fn try_set(&mut self, thread: u32, time: u32) -> Result<Told, Refusal>
+        ensures { came_to result self.new ≡ step self.old (set_time thread time) }
+    {
+        self.thread_lives(thread)?;
+        self.time_visible(thread, time)?;
+        self.times[thread as usize] = time;
+        Ok(Told { value: 0, time: 0 })
     }
 }

@@ -32,7 +32,8 @@ pub use Rattle.calls.specs.declared.Which.TheVariants.{Earliest, Latest, Named}
 pub use Rattle.calls.proofs.Known.{is_open_lem, is_unseen_lem, is_pending_lem}
 pub use Rattle.calls.proofs.Passable.{passable_more}
 unfoldable pub use Rattle.rows.specs.Answers.{decided, passes}
-pub use Rattle.rows.specs.Answers.{Told, Check, accepted, answer, needs, refusal}
+pub use Rattle.rows.specs.declared.Told.{Told}
+pub use Rattle.rows.specs.Answers.{Check, accepted, answer, needs, refusal}
 pub use Rattle.rows.specs.Choices.{is_found, place_found}
 pub use Rattle.rows.specs.Numbers.{never}
 unfoldable pub use Rattle.rows.specs.States.{state_of}

@@ -1,14 +1,13 @@
--- A chain of checks: what is known where all hold, and what is answered where the first that fails refuses. Assumes nothing.
+-- A chain of checks: what is known where all hold, and what is answered where one holds and where it fails. Assumes nothing.
 use mathlib.Core.Path.{◌≡◌, refl, sym, ◌∙◌}
-use mathlib.Core.Bool.{Bool, true, false, not, ◌&&◌, cond}
-use mathlib.Core.List.{List, [], ◌∷◌, ◌++◌}
-use Prim.Native.Nat.{ℕ}
-use lib.Dec.{eqb}
-use Rattle.std.proofs.Common.{⊎_elim, ◌⊎◌}
-use Rattle.rows.specs.declared.Answer.{Answer}
+use mathlib.Core.Bool.{Bool, true, false, ◌&&◌, cond}
+use mathlib.Core.List.{List, [], ◌∷◌}
+use Rattle.std.proofs.Common.{Result, Ok, Err}
+use Rattle.std.specs.Bool.{⊤}
 use Rattle.rows.specs.declared.Refusal.{Refusal}
-use Rattle.rows.specs.Answers.{Told, answer, accepted, Check, passes, decided, refused_by}
-use Rattle.rows.specs.Checks.{Refuses}
+use Rattle.rows.specs.declared.Told.{Told}
+use Rattle.rows.specs.Answers.{accepted, Check, passes, decided, refused_by}
+use Rattle.rows.specs.Checks.{Checked, needed}
 use Rattle.rows.proofs.Laws.{and_left, and_right}
 
 -- ---- what is known where all hold
@@ -28,23 +27,13 @@ unfolding decided
 pass_decided [] told pass = refl
 pass_decided (c ∷ checks) told pass = rw pass.0 (pass_decided checks told pass.1)
 
--- ---- what is known where one fails
+-- ---- what the code's check says of one of 01's, by what the code tests and by its refusal
 
--- whatever the checks after it say, and whatever an accepted call would tell
-pub refuses_decided : (checks more : List Check) (told : Told) (refusal : Refusal) → Refuses checks refusal → decided (checks ++ more) told ≡ refused_by refusal
-unfolding decided
-refuses_decided [] more told refusal none = absurd none
-refuses_decided (c ∷ checks) more told refusal first =
-    ⊎_elim
-    (λ here. rw here.0 (sym here.1))
-    (λ later. rw later.0 (refuses_decided checks more told refusal later.1))
-    first
-
-pub refuses_fails : (checks more : List Check) (refusal : Refusal) → Refuses checks refusal → passes (checks ++ more) ≡ false
-unfolding passes
-refuses_fails [] more refusal none = absurd none
-refuses_fails (c ∷ checks) more refusal first =
-    ⊎_elim
-    (λ here. rw here.0 refl)
-    (λ later. rw later.0 (refuses_fails checks more refusal later.1))
-    first
+pub checked : (c : Check) (refusal : Refusal) {test : Bool} {came : Result ⊤ Refusal} → came ≡ needed test refusal → test ≡ c.holds
+    → refused_by refusal ≡ c.refused
+    → Checked c came
+checked c refusal {test} {came} is same refuses = rw is (go test same)
+  where
+    go : (b : Bool) → b ≡ c.holds → Checked c (needed b refusal)
+    go true holds = sym holds
+    go false fails = (sym fails, refuses)

@@ -1,7 +1,7 @@
 -- Document 01, "Calls, and the order of their checks": how a call is answered. Assumes nothing.
 use Rattle.std.specs.Prelude.{Bool, true, cond, ◌&&◌, List, [], ◌∷◌, ℕ, Result, Ok, Err}
 use Rattle.rows.specs.declared.Answer.{Answer}
-pub use Rattle.rows.specs.declared.Told.{Told}
+use Rattle.rows.specs.declared.Told.{Told}
 use Rattle.rows.specs.declared.Refusal.{Refusal}
 use Rattle.rows.specs.declared.Refusal.TheVariants.{NoThread, NoChannel, NoConnection, OtherDirection, NoTimestamp, BelowVisibleTime, AlreadyPresent, ItemsFull, TableFull, NothingUnseen, NotOpen, SliceTooShort}
 

@@ -8,7 +8,8 @@ use lib.ListN.{length, take}
 use native.Mathlib.Omega.{arith}
 use Rattle.words.specs.Words.{count, has}
 use Rattle.words.proofs.Laws.{count_le}
-use Rattle.rows.specs.Answers.{Told, answer, Check, passes, decided}
+use Rattle.rows.specs.declared.Told.{Told}
+use Rattle.rows.specs.Answers.{answer, Check, passes, decided}
 use Rattle.rows.proofs.Laws.{bool_cases}
 use Rattle.rows.proofs.Checks.{coded, passed, pass_decided, in_turn_lem, turned_zero}
 use Rattle.desk.specs.declared.Desk.{Desk}

@@ -6,5 +6,14 @@ use Rattle.desk.proofs.Desk.visible.Goals as goal
 pub returns : goal.returns
 unfolding visible_time
 returns c =
-    let given = c.args in
-    rw (c.time_at-time.ensures, c.both-readers.ensures, c.owned_at.ensures) at (c.least_open.ensures given.self.consumed)
+    let seen = c.seen.ensures in
+    rw (
+      c.at-time.ensures,
+      c.both-readers.ensures,
+      c.at.ensures,
+      seen.leads,
+      seen.held,
+      seen.marks,
+      seen.opened,
+      seen.timestamps,
+    ) at (c.least_open.ensures c.args.self.now.consumed)
