@@ -1,13 +1,10 @@
 -- A chain of checks: what is known where all hold, and what is answered where the first that fails refuses. Assumes nothing.
-use mathlib.Core.Path.{◌≡◌, refl, sym, ◌∙◌}
-use mathlib.Core.Bool.{Bool, true, false, not, ◌&&◌, cond}
+use mathlib.Core.Path.{◌≡◌, refl, sym}
+use mathlib.Core.Bool.{true, false}
 use mathlib.Core.List.{List, [], ◌∷◌, ◌++◌}
-use Prim.Native.Nat.{ℕ}
-use lib.Dec.{eqb}
-use Rattle.std.proofs.Common.{⊎_elim, ◌⊎◌}
-use Rattle.rows.specs.declared.Answer.{Answer}
+use Rattle.std.proofs.Common.{⊎_elim}
 use Rattle.rows.specs.declared.Refusal.{Refusal}
-use Rattle.rows.specs.Answers.{Told, answer, accepted, Check, passes, decided, refused_by}
+use Rattle.rows.specs.Answers.{Told, accepted, Check, passes, decided, refused_by}
 use Rattle.rows.specs.Checks.{Refuses}
 use Rattle.rows.proofs.Laws.{and_left, and_right}
 
