@@ -56,3 +56,7 @@ pub out_asking : (c : Check) (others : List Check) (says : Told) (came : Result 
     → answered came ≡ decided (c ∷ others) says
 unfolding decided
 out_asking c others says came refusal is fails = let given = err_from_is_err_and came is in rw (given.1, given.2, fails.0, sym fails.1)
+
+pub done_asking : (says : Told) {x : Answer} → x ≡ accepted says → x ≡ decided [] says
+unfolding decided
+done_asking says tells = tells

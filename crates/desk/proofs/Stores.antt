@@ -11,7 +11,7 @@ use borrow.Author.Tests.{le-leb, ltb-false}
 use Rattle.std.proofs.Common.{Option, Some, None}
 use Rattle.words.specs.Words.{has, with, without, except}
 use Rattle.words.specs.Places.{lowest_of}
-use Rattle.words.proofs.Laws.{has_none, word_of_is}
+use Rattle.words.proofs.Laws.{has_none, lowest_le, word_of_is}
 use Rattle.calls.specs.declared.Bound.{Bound}
 use Rattle.calls.specs.declared.Bound.TheVariants.{Weak, Strong}
 use Rattle.calls.specs.States.{is_open}
@@ -90,7 +90,7 @@ some_place place {found} = go (ltb place item_places)
 pub any_place : (timestamps : List ℕ) (places timestamp : ℕ) → place_or_none (place_if_any (place_of timestamps places timestamp)) ≡ place_of timestamps places timestamp
 unfolding place_of
 any_place timestamps places timestamp =
-    let most : lowest_of (is_item timestamps places timestamp) item_places ≤ item_places = lowest_most _ _ in
+    let most : lowest_of (is_item timestamps places timestamp) item_places ≤ item_places = lowest_le _ _ in
     go (lowest_of (is_item timestamps places timestamp) item_places) most (ltb (lowest_of (is_item timestamps places timestamp) item_places) item_places) refl
   where
     go : (place : ℕ) → place ≤ item_places → (inside : Bool) → ltb place item_places ≡ inside → place_or_none (cond inside (Some place) None) ≡ place

@@ -7,7 +7,7 @@ use Rattle.words.specs.Words.{has}
 use Rattle.rows.specs.declared.Connection.{Connection}
 use Rattle.rows.specs.Numbers.{never}
 use Rattle.rows.specs.States.{state_of}
-use Rattle.tables.specs.Columns.{at, connection_in, reads}
+use Rattle.tables.specs.Columns.{connection_in, reads}
 use Rattle.tables.specs.Seen.{is_open_at, is_pending_at}
 use Rattle.tables.specs.Times.{smallest, open_time, pending_time, least_open, least_awaited}
 

@@ -2,17 +2,17 @@
 -- what the loop tests besides. Assumes nothing.
 use mathlib.Core.Bool.{Bool, ◌&&◌, ◌||◌, and_comm, and-false, and-true, cond, false, not, true}
 use mathlib.Core.List.{List}
-use mathlib.Core.Path.{◌∙◌, ◌≡◌, ap, ap₂, refl, sym}
+use mathlib.Core.Path.{◌∙◌, ◌≡◌, ap, refl, sym}
 use Prim.Native.Nat.{◌<◌, ◌≤◌, min, suc, zero, ℕ}
 use native.Mathlib.Nat.{le_refl, min-eq_left}
 use native.Mathlib.Omega.{arith}
-use lib.Dec.{leb, ltb}
+use lib.Dec.{leb}
 use borrow.Author.Tests.{le-leb, leb-true, lt-leb}
 use Rattle.words.specs.Places.{each, fold_to}
 use Rattle.words.specs.Words.{both, except, has}
 use Rattle.words.proofs.Laws.{both_at, except-at}
 use Rattle.words.proofs.Walk.{each_and, each_ext}
-use Rattle.words.proofs.YesOrNo.{and_right, bool_cases}
+use Rattle.words.proofs.YesOrNo.{and_right}
 use Rattle.rows.specs.Numbers.{never}
 use Rattle.rows.specs.declared.Connection.{Connection}
 use Rattle.rows.proofs.Seen.{open_is, pending_is}

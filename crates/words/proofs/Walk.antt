@@ -3,7 +3,7 @@
 use mathlib.Core.Bool.{Bool, ◌&&◌, cond, false, true}
 use mathlib.Core.Logic.{◌≢◌, ⊎_elim}
 use mathlib.Core.Path.{◌∙◌, ◌≡◌, ap, ap₂, refl, subst, sym}
-use Prim.Native.Nat.{◌<◌, ◌≤◌, min, suc, zero, ℕ}
+use Prim.Native.Nat.{◌<◌, ◌≤◌, suc, zero, ℕ}
 use native.Mathlib.Nat.{eq-or-lt_of_le, le_of_suc-le-suc, le_refl, not-suc-le-zero}
 use native.Mathlib.Omega.{arith}
 use Rattle.std.proofs.Common.{Some, None}

@@ -2,7 +2,7 @@
 use mathlib.Core.Path.{◌≡◌, refl, ap, ◌∙◌}
 use mathlib.Core.Bool.{Bool}
 use Prim.Native.Nat.{ℕ}
-use Rattle.std.proofs.Common.{Option}
+use Rattle.std.proofs.Common.{Option, Err, []}
 use Rattle.calls.specs.declared.State.{State}
 use Rattle.calls.specs.States.{is_open}
 use Rattle.rows.specs.declared.Connection.{Connection}
@@ -69,7 +69,8 @@ returns-in_default c =
     let reads = row_is d c.args.connection c.seen.ensures c.connection-row.ensures in
     let none = none_open (connection_at d c.args.connection) c.args.timestamp _ (place_is d c.args.connection c.args.timestamp reads c.in_default.ensures) in
     on _ _ _ _ _ c.in_ok-thread_lives.ensures (on _ _ _ _ _ c.in_ok-connection_owned.ensures (on _ _ _ _ _ c.in_ok-connection_reads.ensures
-    (on _ _ _ _ _ c.in_ok-timestamp_given.ensures (out _ _ _ _ _ _ _ refl (none, refl)))))
+    (on _ _ _ _ _ c.in_ok-timestamp_given.ensures
+    (out d (item_open d c.args.connection c.args.timestamp) [] _ _ (Err NotOpen) NotOpen refl (none, refl)))))
 
 pub returns-in_err-needs : goal.returns-in_err-needs
 unfolding step checks

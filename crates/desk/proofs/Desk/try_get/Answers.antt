@@ -1,15 +1,18 @@
 -- Check by check the code's are 01's, and what is told is what the search found. 3 says that the connection is one of the table's. Assumes nothing.
 use mathlib.Core.Path.{◌≡◌, refl, sym, ap, ◌∙◌}
 use Prim.Native.Nat.{ℕ}
-use Rattle.std.proofs.Common.{Option, Some, None}
+use Rattle.std.proofs.Common.{Option, Some, None, Err, []}
 use Rattle.calls.specs.declared.Which.{Which}
+use Rattle.rows.specs.declared.Refusal.TheVariants.{NothingUnseen}
+use Rattle.rows.specs.declared.Told.{Told}
+use Rattle.rows.specs.Answers.{tells}
 use Rattle.rows.specs.declared.Connection.{Connection}
 use Rattle.rows.specs.declared.Found.{Found}
 use Rattle.rows.specs.Choices.{is_found, place_found, timestamp_found}
 use Rattle.tables.specs.Search.{sought}
 use Rattle.desk.specs.declared.Desk.{Desk}
 use Rattle.desk.specs.Desk.{connection_at, ticket_at}
-use Rattle.desk.specs.Calls.{checks, effect, step, told, sought_by}
+use Rattle.desk.specs.Calls.{checks, effect, step, told, found_told, item_found, sought_by}
 use Rattle.desk.proofs.Outcome.{done, on, out}
 use Rattle.desk.proofs.Owned.{owned_below}
 use Rattle.desk.proofs.Stores.{opens_is, row_is}
@@ -47,13 +50,19 @@ found_of : (d : Desk) (connection : ℕ) (which : Which) {row : Connection} {fou
     → found ≡ sought_by d connection which
 found_of d connection which reads is = is ∙ ap (λ (row : Connection). sought d.timestamps row which) reads
 
+-- what is told of it
+told_of : (d : Desk) (found : Found) {sought_found : Option Found} {ticket : ℕ} → Some found ≡ sought_found → ticket ≡ ticket_at d found.place
+    → ◌≡◌ {A = Told} (tells ticket found.timestamp) (found_told d sought_found)
+told_of d found is read = rw read (ap (found_told d) is)
+
 pub returns-in_default : goal.returns-in_default
 unfolding step checks
 returns-in_default c =
     let d = c.args.self.now in
     let none = found_of d c.args.connection c.args.which (row_is d c.args.connection c.seen.ensures c.connection-row.ensures) c.in_default.ensures in
     on _ _ _ _ _ c.in_ok-thread_lives.ensures (on _ _ _ _ _ c.in_ok-connection_owned.ensures (on _ _ _ _ _ c.in_ok-connection_reads.ensures
-    (on _ _ _ _ _ c.in_ok-which_given.ensures (out _ _ _ _ _ _ _ refl (sym (ap is_found none), refl)))))
+    (on _ _ _ _ _ c.in_ok-which_given.ensures
+    (out d (item_found d c.args.connection c.args.which) [] _ _ (Err NothingUnseen) NothingUnseen refl (sym (ap is_found none), refl)))))
 
 pub returns : goal.returns
 unfolding step checks told effect
@@ -61,6 +70,6 @@ returns c =
     let d = c.args.self.now in
     let reads = row_is d c.args.connection c.seen.ensures c.connection-row.ensures in
     let found = found_of d c.args.connection c.args.which reads c.in-Some.ensures in
-    let told_is = rw (c.at.ensures, sym (ap place_found found), sym (ap timestamp_found found)) in
     on _ _ _ _ _ c.in_ok-thread_lives.ensures (on _ _ _ _ _ c.in_ok-connection_owned.ensures (on _ _ _ _ _ c.in_ok-connection_reads.ensures (on _ _ _ _ _ c.in_ok-which_given.ensures
-    (on _ _ _ _ _ (sym (ap is_found found)) (done _ _ _ told_is (opens_is d c.args.connection c.in-Some.found reads (ap place_found found) c.with.ensures))))))
+    (on _ _ _ _ _ (sym (ap is_found found)) (done _ _ _ (told_of d c.in-Some.found found c.at.ensures)
+    (opens_is d c.args.connection c.in-Some.found reads (ap place_found found) c.with.ensures))))))

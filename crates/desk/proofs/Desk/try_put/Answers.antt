@@ -57,4 +57,4 @@ pub returns : goal.returns
 unfolding step checks told effect stored
 returns c =
     on _ _ _ _ _ c.in_ok-thread_lives.ensures (on _ _ _ _ _ c.in_ok-connection_owned.ensures (on _ _ _ _ _ c.in_ok-connection_writes.ensures (on _ _ _ _ _ c.in_ok-timestamp_given.ensures (on _ _ _ _ _ c.in_ok-time_visible.ensures (on _ _ _ _ _ c.in_ok-timestamp_absent.ensures (on _ _ _ _ _ c.in_ok-item_fits.ensures
-    (done _ _ _ refl (rw (c.hold.ensures, c.with.ensures, c.lowest_free-place.ensures, c.at-channel.ensures)))))))))
+    (done _ _ _ refl (rw (c.hold.ensures, c.with-self.ensures, c.lowest_free-place.ensures, c.at-channel.ensures)))))))))

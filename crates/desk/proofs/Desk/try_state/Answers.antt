@@ -13,7 +13,7 @@ use Rattle.tables.specs.Seen.{place_if_any, place_of, state}
 use Rattle.desk.specs.declared.Desk.{Desk}
 use Rattle.desk.specs.Desk.{connection_at}
 use Rattle.desk.specs.Questions.{question_checks, question_told, reply}
-use Rattle.desk.proofs.Outcome.{on_asking, out_asking}
+use Rattle.desk.proofs.Outcome.{done_asking, on_asking, out_asking}
 use Rattle.desk.proofs.Stores.{any_place, row_is}
 use Rattle.desk.proofs.Desk.try_state.Goals as goal
 
@@ -47,11 +47,12 @@ returns-in_err-timestamp_given c =
     (out_asking _ _ _ _ _ c.from_residual-in_err-timestamp_given.ensures.1 c.in_err-timestamp_given.ensures))
 
 pub returns : goal.returns
-unfolding reply question_checks question_told decided
+unfolding reply question_checks question_told
 returns c =
     let d = c.args.self.now in
     let reads = row_is d c.args.connection c.seen.ensures c.connection-row.ensures in
     on_asking _ _ _ c.in_ok-connection_exists.ensures (on_asking _ _ _ c.in_ok-connection_reads.ensures
     (on_asking _ _ _ c.in_ok-timestamp_given.ensures
+    (done_asking _
     (ap (λ (number : ℕ). accepted (tells number 0))
-    (state_is d c.args.connection c.args.timestamp reads c.place_of-place.ensures c.state_of.ensures c.from.ensures))))
+    (state_is d c.args.connection c.args.timestamp reads c.place_of-place.ensures c.state_of.ensures c.from.ensures)))))

@@ -1,9 +1,7 @@
 -- A place of the table is read as it stands, and a number past it as the zero. Assumes nothing.
 use mathlib.Core.Bool.{Bool, cond}
 use mathlib.Core.Path.{ap, sym, ◌∙◌}
-use Prim.Native.Nat.{◌<◌}
-use lib.ListN.{get_or, length}
-use native.Mathlib.Omega.{arith}
+use lib.ListN.{get_or}
 use borrow.Author.Tests.{le-ltb, lt-ltb}
 use Rattle.std.proofs.lemmas.List.{get_or_read_under}
 use Rattle.tables.specs.Columns.{reads}

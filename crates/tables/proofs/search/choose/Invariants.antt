@@ -1,4 +1,4 @@
-use mathlib.Core.Bool.{Bool, cond, ◌&&◌}
+use mathlib.Core.Bool.{cond, ◌&&◌}
 use mathlib.Core.List.{List}
 use mathlib.Core.Path.{◌≡◌}
 use Prim.Native.Nat.{ℕ}

@@ -3,7 +3,7 @@
 use mathlib.Core.Path.{◌≡◌, refl, sym, ap, ◌∙◌}
 use Prim.Native.Nat.{ℕ, ◌<◌, ◌≤◌}
 use native.Mathlib.Omega.{arith}
-use borrow.Author.Tests.{eq-eqb, le-ltb, lt-ltb, ne_eqb}
+use borrow.Author.Tests.{eq-eqb, lt-ltb, ne_eqb}
 use Rattle.std.proofs.Common.{Option, Some, None}
 use Rattle.words.specs.declared.PlaceWalk.{PlaceWalk}
 use Rattle.words.proofs.Search.{lowest_in, search_here, search_turn, search_done}

@@ -1,9 +1,7 @@
 -- After each step the rest of the walk, from the least so far, still finds what the whole finds: the smallest time of the living threads. Assumes
 -- nothing.
-use mathlib.Core.Path.{◌≡◌, refl, ap, ◌∙◌}
-use Prim.Native.Nat.{ℕ, min}
+use mathlib.Core.Path.{refl}
 use native.Mathlib.Omega.{arith}
-use Rattle.words.specs.declared.PlaceWalk.{PlaceWalk}
 use Rattle.words.proofs.Walk.{walk_turn, walk-done, walk_starts}
 use Rattle.tables.specs.Columns.{at, thread_places}
 use Rattle.tables.specs.Times.{least_time, smallest}
