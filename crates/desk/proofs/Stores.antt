@@ -26,7 +26,8 @@ use Rattle.tables.specs.declared.columns.Seen.{Seen}
 use Rattle.desk.specs.declared.Desk.{Desk}
 use Rattle.desk.specs.Desk.{SeenOf, connection_at, owned_by, with_connections, with_seen, with_threads}
 use Rattle.desk.specs.Times.{weak_bound, strong_bound}
-use Rattle.desk.specs.Calls.{attached_to, becomes_open, bound_of, consumed_by_name, ended, free_connection, freed, unattached}
+use Rattle.leaving.specs.Leaving.{raised}
+use Rattle.desk.specs.Calls.{attached_to, becomes_open, bound_of, consumed_by_name, ended, free_connection, freed, leaving, left, raised_to, swept, unattached}
 
 -- the bound that a sweep takes
 pub bound_is : (d : Desk) (which : Bound)
@@ -129,3 +130,12 @@ pub consumes_is : (d : Desk) (connection : ℕ) {place open_word consumed_word a
     → ◌≡◌ {A = Desk} (with_seen d d.marks (set d.opened connection open_word) (set d.consumed connection consumed_word)) (consumed_by_name d connection at_place)
 unfolding consumed_by_name
 consumes_is d connection reads found leaves joins = rw (leaves, joins, found, reads)
+
+-- a sweep: what it leaves, and then the marks
+pub swept_is : (d : Desk) {bound at_bound gone : ℕ} {made : Desk} {marks : List ℕ} → bound ≡ at_bound
+    → gone ≡ leaving d at_bound
+    → made ≡ left d gone
+    → marks ≡ raised made.inputs bound made.marks
+    → ◌≡◌ {A = Desk} (with_seen made marks made.opened made.consumed) (swept d at_bound)
+unfolding raised_to swept
+swept_is d bound_is gone_is is raises = rw (raises, is, gone_is, bound_is)

@@ -26,12 +26,12 @@ impl Desk {
         let bound = self.bound(which);
         let gone = items_below(&self.timestamps, self.present, bound);
         let number = words::count(gone);
-        hand_back(&self.timestamps, &self.tickets, &self.held, gone, slice);
         // 12
         needs(
             number as usize <= slice.len(),
             Refusal::SliceTooShort(number),
         )?;
+        hand_back(&self.timestamps, &self.tickets, &self.held, gone, slice);
         self.let_leave(gone);
         raise_marks(&mut self.marks, self.inputs, bound);
         Ok(Told {
