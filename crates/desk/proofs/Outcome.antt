@@ -2,11 +2,12 @@
 use mathlib.Core.Path.{◌≡◌, refl, sym, ap, ◌∙◌}
 use mathlib.Core.Bool.{Bool, true, false, cond}
 use mathlib.Core.List.{List, [], ◌∷◌}
+use Prim.Native.Nat.{ℕ}
 use Rattle.std.proofs.Common.{Result, Ok, Err}
 use Rattle.std.specs.Result.{IsErrAnd}
 use Rattle.std.proofs.lemmas.Result.{err_from_is_err_and}
 use Rattle.rows.specs.Checks.{Checked}
-use Rattle.rows.proofs.Checks.{Pass, passed}
+use Rattle.rows.proofs.Checks.{Held, Pass, held_by, passed}
 use Rattle.rows.specs.declared.Answer.{Answer}
 use Rattle.rows.specs.declared.Refusal.{Refusal}
 use Rattle.rows.specs.declared.Told.{Told}
@@ -18,12 +19,13 @@ use Rattle.desk.specs.Calls.{came_to, checks, outcome}
 
 -- ---- what is known of an accepted call
 
--- all checks of the call hold
+-- all checks of the call hold; `held` reads each fact by the code of its refusal
 pub record Passed (d : Desk) (call : Call) : Type 0 where
   pub all : Pass (checks d call)
+  pub held : (code : ℕ) → Held (checks d call) code
 
 pub passing : (d : Desk) (call : Call) → passes (checks d call) ≡ true → Passed d call
-passing d call all = record { all = passed (checks d call) all }
+passing d call all = record { all = passed (checks d call) all; held = held_by (checks d call) (passed (checks d call) all) }
 
 -- ---- a check after the other
 

@@ -1,7 +1,7 @@
 -- The checks of each call agree with the refusals that the view names: check by check, what the columns say is what the view says. Assumes nothing.
 use Rattle.obeys.proofs.Basis.{◌∙◌, ◌≡◌, ap, refl, subst, sym, false, true, Option·none-ne-some, Option·some-injective, List, ◌<◌, ◌≤◌, ℕ, arith, ltb, length, leb-false, leb-true}
 use Rattle.obeys.proofs.Basis.{ltb-false, ltb-true, count, has, lowest_free, word_places, count_le, free_below, free_lacks, Call, by, sweep, is_open, Strong, Weak, AttachInput, AttachOutput, Channel, Consume, ConsumeUntil, Detach, End}
-use Rattle.obeys.proofs.Basis.{Get, NewThread, Put, Set, State, Which, Earliest, Latest, Named, never, Found, At, Nothing, is_found, true_not_false, place_of, state, in_use, channel_places, connection_places, item_places, thread_places}
+use Rattle.obeys.proofs.Basis.{Get, NewThread, Put, Set, State, Which, Earliest, Latest, Named, never, Found, is_found, true_not_false, place_of, state, in_use, channel_places, connection_places, item_places, thread_places, OptionOf, Some, None, found_at}
 use Rattle.obeys.proofs.Basis.{attached, connection_at, is_input, is_living, is_output, items_in, leads_to, used_below, leaving, channel_exists, checks, connection_owned, connection_reads, connection_writes, item_fits, item_found, item_open}
 use Rattle.obeys.proofs.Basis.{place_free, slice_long, sought_by, thread_lives, time_visible, timestamp_absent, which_given, strong_bound, visible_time, weak_bound, Desk, FreeChannel, FreeConnection, FreeThread, Listed, Lowest}
 use Rattle.obeys.proofs.Basis.{desk_full, input_from, named_never, no_channel, no_input, no_output, no_thread, not_its_own, not_open, nothing_unseen, output_to, rule, slice_short, state_on, table_full, taken, too_early}
@@ -54,9 +54,9 @@ module _ {w places : ℕ} {Free : ℕ → Type 0} (f : Frees w places Free) wher
 module _ (d : Desk) (o : DeskInOrder d) where
   -- ---- check by check
 
-  not_found : (found : Found) → is_found found ≡ false → found ≡ Nothing
-  not_found (At place timestamp) e = absurd (true_not_false {b = true} refl e)
-  not_found Nothing e = refl
+  not_found : (found : OptionOf Found) → is_found found ≡ false → found ≡ None
+  not_found (Some item) e = absurd (true_not_false {b = true} refl e)
+  not_found None e = refl
 
   pub agree_thread : (thread : ℕ) → Matches (thread_lives d thread) (no_thread (view_of d) thread)
   agree_thread thread = plain _ 1 _ (dead_view d thread) (λ e gone. Option·none-ne-some _ (sym gone ∙ lives_view d thread e))
@@ -121,10 +121,10 @@ module _ (d : Desk) (o : DeskInOrder d) where
       (λ e. takes_none d o connection reads which (not_found (sought_by d connection which) e))
       (λ e case. go (sought_by d connection which) refl e case)
     where
-      go : (found : Found) → sought_by d connection which ≡ found → is_found found ≡ true
+      go : (found : OptionOf Found) → sought_by d connection which ≡ found → is_found found ≡ true
           → ((timestamp : ℕ) → TakesUnseen (view_of d) connection which timestamp → ⊥) → ⊥
-      go (At place timestamp) e found case = case timestamp (takes d o connection reads which place timestamp e)
-      go Nothing e found case = true_not_false found refl
+      go (Some item) e found case = case item.timestamp (takes d o connection reads which item.place item.timestamp e)
+      go None e found case = true_not_false found refl
 
   agree_open : (connection timestamp : ℕ) → is_input d connection ≡ true
       → Matches (item_open d connection timestamp) (not_open (view_of d) connection timestamp)

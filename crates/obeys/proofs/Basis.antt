@@ -34,13 +34,13 @@ pub use Rattle.calls.proofs.Passable.{passable_more}
 unfoldable pub use Rattle.rows.specs.Answers.{decided, passes}
 pub use Rattle.rows.specs.declared.Told.{Told}
 pub use Rattle.rows.specs.Answers.{Check, accepted, answer, needs, refusal}
-pub use Rattle.rows.specs.Choices.{is_found, place_found}
+pub use Rattle.std.proofs.Common.{Option as OptionOf, Some, None}
+pub use Rattle.rows.specs.Choices.{found_at, is_found, place_found}
 pub use Rattle.rows.specs.Numbers.{never}
 unfoldable pub use Rattle.rows.specs.States.{state_of}
 pub use Rattle.rows.specs.States.{by_name}
 pub use Rattle.rows.specs.declared.Connection.{Connection as Row}
 pub use Rattle.rows.specs.declared.Found.{Found}
-pub use Rattle.rows.specs.declared.Found.TheVariants.{At, Nothing}
 unfoldable pub use Rattle.rows.proofs.Changed.{cleared as cleared_row, consumed_by_name as consumed_row, got as got_row, raised as raised_row}
 pub use Rattle.rows.proofs.Changed.{same_facts, got_here, got_beside, consumed_here, consumed_beside, raised_as}
 pub use Rattle.rows.proofs.Checks.{Pass, passed, pass_decided}

@@ -1,6 +1,6 @@
 -- Each accepted call does what the view says, by the law of its effect, and so does each call, by the agreement of its checks. Assumes nothing.
-use Rattle.obeys.proofs.Basis.{[], ◌<◌, ◌∷◌, ◌≡◌, At, AttachInput, AttachOutput, BoundOf, Call, Channel, Consume, ConsumeUntil, Consumed, Desk, DeskDoes}
-use Rattle.obeys.proofs.Basis.{DeskInOrder, Detach, End, Found, Get, Holds, List, NewThread, Nothing, Passed, Put, Row, Set, View, Which, adopted}
+use Rattle.obeys.proofs.Basis.{[], ◌<◌, ◌∷◌, ◌≡◌, AttachInput, AttachOutput, BoundOf, Call, Channel, Consume, ConsumeUntil, Consumed, Desk, DeskDoes, Option, Some, None, found_at}
+use Rattle.obeys.proofs.Basis.{DeskInOrder, Detach, End, Found, Get, Holds, List, NewThread, Passed, Put, Row, Set, View, Which, adopted, OptionOf, Some, None, found_at}
 use Rattle.obeys.proofs.Basis.{and_left, and_right, ap, arith, attached, becomes_open, bool_cases, bound_of, by, channel_places, checks, connection_at}
 use Rattle.obeys.proofs.Basis.{connection_places, count, done, effect, false, fewer_free, found-holds, found_told, free_channel, free_connection, free_thread}
 use Rattle.obeys.proofs.Basis.{handed_back, has, in_use-has, input_from, is_open_lem, is_unseen_lem, is_found, is_input, is_open, is_output, is_pending, is_unseen_at}
@@ -29,11 +29,13 @@ quietly {n} {m} {slice} same = ap (λ (u : View). done n m u slice) same
 
 module _ (d : Desk) (o : DeskInOrder d) where
   got-accepts : (thread connection : ℕ) (which : Which) → is_input d connection ≡ true
-      → (found : Found) → sought_by d connection which ≡ found → is_found found ≡ true
+      → (found : OptionOf Found) → sought_by d connection which ≡ found → is_found found ≡ true
       → (rule (view_of d) (by thread (Get connection which))).Accepts
       (done (found_told d found).value (found_told d found).time (view_of (becomes_open d connection (place_found found))) [])
   unfolding is_unseen_at
-  got-accepts thread connection which reads (At place timestamp) e found =
+  got-accepts thread connection which reads (Some item) e found =
+      let place : ℕ = item.place in
+      let timestamp : ℕ = item.timestamp in
       let row : Row = connection_at d connection in
       let s = sought-found d.timestamps row which place timestamp e in
       let unseen = is_unseen_lem (state_at d.timestamps row place) (and_right (has row.items place) _ s.unseen) in
@@ -48,7 +50,7 @@ module _ (d : Desk) (o : DeskInOrder d) where
         item_view d o (leads_to d connection) h,
         quietly (view_got d o connection reads h (omega (arith, w.mark, s.is))),
       )
-  got-accepts thread connection which reads Nothing e found = absurd (true_not_false found refl)
+  got-accepts thread connection which reads None e found = absurd (true_not_false found refl)
 
   consumed_view : (thread connection timestamp : ℕ) → is_input d connection ≡ true
       → is_open (state d.timestamps (connection_at d connection) timestamp) ≡ true

@@ -1,5 +1,5 @@
 -- What a get finds is what the view says that it takes: a timestamp that fits has its place, and the best place has the timestamp. Assumes nothing.
-use Rattle.obeys.proofs.Basis.{◌∙◌, ◌≡◌, ap, refl, sym, true, ◌<◌, ℕ, arith, eq-eqb, eqb-true, ltb-false, is_pending, is_unseen, Unseen, Which, Earliest, Latest, Named, Row, At, Nothing, is_wanted, is_unseen_at, item_places, sought_by}
+use Rattle.obeys.proofs.Basis.{◌∙◌, ◌≡◌, ap, refl, sym, true, ◌<◌, ℕ, arith, eq-eqb, eqb-true, ltb-false, is_pending, is_unseen, Unseen, Which, Earliest, Latest, Named, Row, is_wanted, is_unseen_at, item_places, sought_by, Option, Some, None, found_at}
 use Rattle.obeys.proofs.Basis.{Desk, connection_at, is_input, leads_to, timestamp_at, TakesUnseen, state_on, DeskInOrder, view_of, is_unseen_lem, Sought, sought-found, sought_some, seen_at, at_seen}
 use Rattle.obeys.proofs.Lookup.{state_view}
 
@@ -37,7 +37,7 @@ module _ (d : Desk) (o : DeskInOrder d) (connection : ℕ) (reads : is_input d c
   )
   takes_found (Named name) place timestamp s = (found_fits (Named name) place timestamp s, eqb-true timestamp name s.wanted)
 
-  pub takes : (which : Which) (place timestamp : ℕ) → sought_by d connection which ≡ At place timestamp → TakesUnseen (view_of d) connection which timestamp
+  pub takes : (which : Which) (place timestamp : ℕ) → sought_by d connection which ≡ Some (found_at place timestamp) → TakesUnseen (view_of d) connection which timestamp
   takes which place timestamp found = takes_found which place timestamp (sought-found d.timestamps row which place timestamp found)
 
   fits_of : (which : Which) (timestamp : ℕ) → TakesUnseen (view_of d) connection which timestamp → Fits timestamp
@@ -51,7 +51,7 @@ module _ (d : Desk) (o : DeskInOrder d) (connection : ℕ) (reads : is_input d c
   wanted_of Latest timestamp place t is = refl
   wanted_of (Named name) timestamp place t is = eq-eqb _ name (is ∙ t.1)
 
-  pub takes_none : (which : Which) → sought_by d connection which ≡ Nothing → (timestamp : ℕ) → TakesUnseen (view_of d) connection which timestamp → ⊥
+  pub takes_none : (which : Which) → sought_by d connection which ≡ None → (timestamp : ℕ) → TakesUnseen (view_of d) connection which timestamp → ⊥
   takes_none which none timestamp t =
       let (p, inside, unseen, is) = fits_place timestamp (fits_of which timestamp t) in
       sought_some d.timestamps row which p inside unseen (wanted_of which timestamp p t is) none

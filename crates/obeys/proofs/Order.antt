@@ -8,7 +8,7 @@ pub mod Seen
 use Rattle.obeys.proofs.Basis.{false, false≢true, true, ◌≡◌, refl, ◌+◌, ◌<◌, ◌≤◌, ℕ, dec_lt, arith, leb-true, ltb-true, has, either, with, either_right}
 use Rattle.obeys.proofs.Basis.{has_none, has_from, fewer_free, true_not_false, and_left, and_right, Call, Passable, by, sweep, Bound, Strong, Weak}
 use Rattle.obeys.proofs.Basis.{AttachInput, AttachOutput, Channel, Consume, ConsumeUntil, Detach, End, Get, NewThread, Put, Set, Which, is_open_lem}
-use Rattle.obeys.proofs.Basis.{is_unseen_lem, is_found, place_found, never, Found, At, Nothing, open_fact, unseen_facts, number_at, connection_places}
+use Rattle.obeys.proofs.Basis.{is_unseen_lem, is_found, place_found, never, Found, open_fact, unseen_facts, number_at, connection_places, OptionOf, Some, None, found_at}
 use Rattle.obeys.proofs.Basis.{channel_places, item_places, thread_places, is_unseen_at, state, least_time, at-zeros, sought-found, shared_none, tidy_zeros}
 use Rattle.obeys.proofs.Basis.{in_use-has, used_inside, becomes_open, checks, effect, bound_of, sought_by, fresh, connection_at, is_input, is_output, leads_to}
 use Rattle.obeys.proofs.Basis.{owned_by, strong_bound, visible_time, weak_bound, Desk, Passed, DeskInOrder, EveryDeskInOrder}
@@ -87,15 +87,17 @@ module _ (d : Desk) (o : DeskInOrder d) where
   bound_top Strong = omega (arith, least_top)
 
   -- a get opens what it found
-  found_in_order : (connection : ℕ) → is_input d connection ≡ true → (which : Which) (found : Found)
+  found_in_order : (connection : ℕ) → is_input d connection ≡ true → (which : Which) (found : OptionOf Found)
       → sought_by d connection which ≡ found → is_found found ≡ true → DeskInOrder (becomes_open d connection (place_found found))
   unfolding is_unseen_at
-  found_in_order connection reads which (At place timestamp) search found =
+  found_in_order connection reads which (Some item) search found =
+      let place : ℕ = item.place in
+      let timestamp : ℕ = item.timestamp in
       let row = connection_at d connection in
       let unseen = (sought-found d.timestamps row which place timestamp search).unseen in
       becomes_open_in_order o connection reads place (and_left _ _ unseen)
       (unseen_facts row _ place (is_unseen_lem _ (and_right (has row.items place) _ unseen))).1
-  found_in_order connection reads which Nothing search found = absurd (false≢true found)
+  found_in_order connection reads which None search found = absurd (false≢true found)
 
   -- an output leads to a channel that there is
   output_leads : (connection : ℕ) → is_output d connection ≡ true → has d.channels (leads_to d connection) ≡ true
