@@ -1,15 +1,16 @@
--- The digits of a number: how many there are, and that they can be had from the last to the first. Assumes nothing.
+-- The digits of a number: how many there are, and that they are those that the library writes. Assumes nothing.
 use Prim.Native.Char.{code}
 use Prim.Native.Nat.{ℕ, zero, suc, ◌+◌, ◌*◌, ◌/◌, ◌%◌, ◌^◌, ◌≤◌, ◌<◌}
 use mathlib.Core.Path.{◌≡◌, refl, ap, ◌∙◌}
 use mathlib.Core.List.{List, [], ◌∷◌, ◌++◌}
 use mathlib.Core.Bool.{Bool, true, false}
 use native.Mathlib.Omega.{arith}
-use native.Mathlib.Numerals.{add-one}
-use native.Mathlib.Nat.{pow-suc, one-le-pow, pow-le-pow_right}
+use native.Mathlib.Nat.{pow-suc}
 use borrow.Author.Tests.{le-ltb, lt-ltb, ltb-true, ltb-false}
 use lib.Dec.{ltb}
 use lib.ListN.{length, length-append}
+use Rattle.std.specs.Fmt.{decimal}
+use Rattle.std.proofs.lemmas.Fmt.{decimal_from_appends, length-decimal-le}
 use Rattle.text.specs.Text.{digits, decimal_text, most_digits}
 
 -- a test goes one way or the other
@@ -56,14 +57,6 @@ digits-below (suc places) (suc exponent) v below =
     (λ few. omega (arith, length_few places v few))
     (λ more. omega (arith, length_more places v more, digits-below places exponent (v / 10) (omega arith)))
 
-digits_above : (places exponent v : ℕ) → 10 ^ exponent ≤ v → exponent < places → exponent < length (digits places v)
-digits_above zero exponent v above fits = omega arith
-digits_above (suc places) zero v above fits = digits_some places v
-digits_above (suc places) (suc exponent) v above fits =
-    let tenth : 10 ^ exponent * 10 ≤ v = rw pow-suc at above in
-    let more : 10 ≤ v = omega (arith, one-le-pow exponent 10 (omega arith)) in
-    omega (arith, length_more places v more, digits_above places exponent (v / 10) (omega arith) (omega arith))
-
 -- no number is longer than the most digits
 pub decimal-length : (v : ℕ) → length (decimal_text v) ≤ most_digits
 unfolding decimal_text
@@ -80,38 +73,9 @@ unfolding decimal_text
 decimal-below zero v some below = omega arith
 decimal-below (suc exponent) v some below = digits-below most_digits exponent v below
 
--- any other has more digits than the power has zeros, as far as the most digits go
-pub decimal_above : (exponent v : ℕ) → exponent < most_digits → 10 ^ exponent ≤ v → exponent < length (decimal_text v)
+-- a number of 64 bits has the text that the library writes of it
+pub decimal_is : (v : ℕ) → v < 2 ^ 64 → decimal_text v ≡ decimal v
 unfolding decimal_text
-decimal_above exponent v fits above = digits_above most_digits exponent v above fits
-
--- a power of ten that has less than 19 zeros takes one more in 64 bits
-pub next_power : (exponent : ℕ) → exponent < 19 → 10 ^ exponent * 10 ≤ 10000000000000000000
-next_power exponent fits = rw (← pow-suc) (pow-le-pow_right {n = 10} (omega arith) {i = suc exponent} {j = 19} fits)
-
--- the last `count` digits of v, leading zeros included: what is still to be written when the digits come from the last to the first
-unfoldable pub last_digits : ℕ → ℕ → List ℕ
-last_digits zero v = []
-last_digits (suc count) v = last_digits count (v / 10) ++ ((code "0" + v % 10) ∷ [])
-
-pub length_last : (count v : ℕ) → length (last_digits count v) ≡ count
-unfolding last_digits
-length_last zero v = refl
-length_last (suc count) v = simp length-append (omega (arith, length_last count (v / 10)))
-
-pub none_last : (count v : ℕ) → count ≡ 0 → last_digits count v ≡ []
-unfolding last_digits
-none_last count v none = rw none
-
--- as many last digits as the number has are the number
-digits_last : (places v : ℕ) → last_digits (length (digits places v)) v ≡ digits places v
-unfolding digits last_digits
-digits_last zero v = refl
-digits_last (suc places) v =
-    split v
-    (λ few. rw (digits_few places v few) (ap (λ (digit : ℕ). (code "0" + digit) ∷ []) (omega arith)))
-    (λ more. rw (digits_more places v more, length-append, add-one) (ap (λ (others : List ℕ). others ++ ((code "0" + v % 10) ∷ [])) (digits_last places (v / 10))))
-
-pub decimal_last : (v : ℕ) → last_digits (length (decimal_text v)) v ≡ decimal_text v
-unfolding decimal_text
-decimal_last v = digits_last most_digits v
+decimal_is v small =
+    decimal_from_appends digits (record { one = digits_few; more = digits_more }) most_digits v small
+    (length-decimal-le most_digits v (omega arith) (omega arith) small)
