@@ -13,15 +13,6 @@ use Rattle.std.specs.Fmt.{decimal}
 use Rattle.std.proofs.lemmas.Fmt.{decimal_from_appends, length-decimal-le}
 use Rattle.text.specs.Text.{digits, decimal_text, most_digits}
 
--- a test goes one way or the other
-tested : {P : Type 0} (b : Bool) → (b ≡ true → P) → (b ≡ false → P) → P
-tested true passes fails = passes refl
-tested false passes fails = fails refl
-
--- a number is a digit, or it has a tenth and a last digit
-split : {P : Type 0} (v : ℕ) → (v < 10 → P) → (10 ≤ v → P) → P
-split v few more = tested (ltb v 10) (λ passed. few (ltb-true v 10 passed)) (λ failed. more (ltb-false v 10 failed))
-
 digits_few : (places v : ℕ) → v < 10 → digits (suc places) v ≡ (code "0" + v) ∷ []
 unfolding digits
 digits_few places v few = simp (lt-ltb _ _ few)
@@ -30,32 +21,31 @@ digits_more : (places v : ℕ) → 10 ≤ v → digits (suc places) v ≡ digits
 unfolding digits
 digits_more places v more = simp (le-ltb _ _ more)
 
-length_few : (places v : ℕ) → v < 10 → length (digits (suc places) v) ≡ 1
-length_few places v few = ap length (digits_few places v few)
-
-length_more : (places v : ℕ) → 10 ≤ v → length (digits (suc places) v) ≡ length (digits places (v / 10)) + 1
-length_more places v more = ap length (digits_more places v more) ∙ simp length-append
+-- a number is one digit long, or one digit longer than its tenth
+digits-length : (places v : ℕ)
+    → ((v < 10) × (length (digits (suc places) v) ≡ 1))
+    ⊎ ((10 ≤ v) × (length (digits (suc places) v) ≡ length (digits places (v / 10)) + 1))
+digits-length places v = elim lt-or-ge v 10 [
+      inl few ↦ inl (few, ap length (digits_few places v few))
+    | inr more ↦ inr (more, ap length (digits_more places v more) ∙ simp length-append)
+    ]
 
 digits_within : (places v : ℕ) → length (digits places v) ≤ places
 unfolding digits
 digits_within zero v = omega arith
-digits_within (suc places) v =
-    split v
-    (λ few. omega (arith, length_few places v few))
-    (λ more. omega (arith, length_more places v more, digits_within places (v / 10)))
+digits_within (suc places) v = omega (arith, digits-length places v, digits_within places (v / 10))
 
 digits_some : (places v : ℕ) → 0 < length (digits (suc places) v)
-digits_some places v = split v (λ few. omega (arith, length_few places v few)) (λ more. omega (arith, length_more places v more))
+digits_some places v = omega (arith, digits-length places v)
 
 digits-below : (places exponent v : ℕ) → v < 10 ^ suc exponent → length (digits places v) ≤ suc exponent
 unfolding digits
 digits-below zero exponent v below = omega arith
-digits-below (suc places) zero v below = omega (arith, length_few places v below)
+digits-below (suc places) zero v below = omega (arith, digits-length places v)
 digits-below (suc places) (suc exponent) v below =
     let tenth : v < 10 ^ suc exponent * 10 = rw pow-suc at below in
-    split v
-    (λ few. omega (arith, length_few places v few))
-    (λ more. omega (arith, length_more places v more, digits-below places exponent (v / 10) (omega arith)))
+    let shorter : v / 10 < 10 ^ suc exponent = omega arith in
+    omega (arith, digits-length places v, digits-below places exponent (v / 10) shorter)
 
 -- no number is longer than the most digits
 pub decimal-length : (v : ℕ) → length (decimal_text v) ≤ most_digits

@@ -87,7 +87,7 @@ impl Line<'_> {
 }
 
 // Whether from `at` on there is the room for an answer, and whether the tickets are there. No sum here can wrap.
-#[tactic(auto, using(crate::proofs::Room::room_places, crate::proofs::Room::room_tickets, crate::proofs::Room::room_held))]
+#[tactic(auto, using(std::proofs::lemmas::Bool::Decides::nat_tests), unfolding(crate::specs::Text::has_room))]
 fn has_room(at: usize, places: usize, count: usize, held: usize) -> bool
     ensures { result ≡ has_room at places count held }
 {
