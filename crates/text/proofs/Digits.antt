@@ -1,15 +1,15 @@
 -- The digits of a number: how many there are, and that they are those that the library writes. Assumes nothing.
 use Prim.Native.Char.{code}
 use Prim.Native.Nat.{ℕ, zero, suc, ◌+◌, ◌*◌, ◌/◌, ◌%◌, ◌^◌, ◌≤◌, ◌<◌}
-use mathlib.Core.Path.{◌≡◌, refl, ap, ◌∙◌}
-use mathlib.Core.List.{List, [], ◌∷◌, ◌++◌}
-use mathlib.Core.Bool.{Bool, true, false}
+use mathlib.Core.Path.{◌≡◌, ap, ◌∙◌}
+use mathlib.Core.List.{[], ◌∷◌, ◌++◌}
+use mathlib.Core.Logic.{◌⊎◌, inl, inr}
 use native.Mathlib.Omega.{arith}
 use native.Mathlib.Nat.{pow-suc}
-use borrow.Author.Tests.{le-ltb, lt-ltb, ltb-true, ltb-false}
-use lib.Dec.{ltb}
+use borrow.Author.Tests.{le-ltb, lt-ltb}
 use lib.ListN.{length, length-append}
 use Rattle.std.specs.Fmt.{decimal}
+use Rattle.std.proofs.lemmas.Bool.{cases_lt}
 use Rattle.std.proofs.lemmas.Fmt.{decimal_from_appends, length-decimal-le}
 use Rattle.text.specs.Text.{digits, decimal_text, most_digits}
 
@@ -25,10 +25,10 @@ digits_more places v more = simp (le-ltb _ _ more)
 digits-length : (places v : ℕ)
     → ((v < 10) × (length (digits (suc places) v) ≡ 1))
     ⊎ ((10 ≤ v) × (length (digits (suc places) v) ≡ length (digits places (v / 10)) + 1))
-digits-length places v = elim lt-or-ge v 10 [
-      inl few ↦ inl (few, ap length (digits_few places v few))
-    | inr more ↦ inr (more, ap length (digits_more places v more) ∙ simp length-append)
-    ]
+digits-length places v = elim (cases_lt v 10) [
+  | inl few ↦ inl (few, ap length (digits_few places v few))
+  | inr more ↦ inr (more, ap length (digits_more places v more) ∙ simp length-append)
+]
 
 digits_within : (places v : ℕ) → length (digits places v) ≤ places
 unfolding digits

@@ -96,7 +96,13 @@ fn has_room(at: usize, places: usize, count: usize, held: usize) -> bool
 
 // Writes the line of an answer into out from `at` on, with the first `count` tickets, and answers the place after it.
 // Where it might not fit, or the tickets are not there, it writes nothing and answers `at`.
-pub fn write_answer(out: &mut [u8], at: usize, answer: Answer, tickets: &[u64], count: usize) -> usize
+pub fn write_answer(
+    out: &mut [u8],
+    at: usize,
+    answer: Answer,
+    tickets: &[u64],
+    count: usize,
+) -> usize
     ensures { let room = has_room at (length out.old) count (length tickets.now) in
         let text = answer_text answer.code answer.value answer.time (take count tickets.now) in
         (result ≡ cond room (at + length text) at) × (out.new ≡ cond room (written out.old at text) out.old) }

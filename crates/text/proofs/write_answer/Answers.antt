@@ -2,7 +2,7 @@
 -- is. Assumes nothing.
 use Rattle.std.proofs.Common.{rules, ◌≡◌, true, length, take, arith, sym}
 use Rattle.std.proofs.lemmas.List.{length-take-le}
-use Rattle.text.specs.Text.{answer_text, has_room}
+use Rattle.text.specs.Text.{has_room}
 use Rattle.text.proofs.Laws.{answer_fits}
 use Rattle.text.proofs.Room.{room_is}
 use Rattle.text.proofs.Stores.{wrote_written}

@@ -1,6 +1,6 @@
 -- The three numbers, the tickets and the newline are written one behind the other, and what each writer promises chains. Assumes nothing.
 use Rattle.std.proofs.Common.{length-append, arith}
-use Rattle.text.specs.Text.{answer_text, newline}
+use Rattle.text.specs.Text.{answer_text}
 use Rattle.text.proofs.Stores.{next, wrote-length}
 use Rattle.text.proofs.Line.answer.Goals as goal
 

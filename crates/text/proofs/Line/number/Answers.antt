@@ -1,5 +1,5 @@
 -- The number's text is the library's, copied in one piece. Assumes nothing.
-use Rattle.std.proofs.Common.{◌≡◌, ◌≤◌, ◌+◌, length, arith, sym, ap, ◌∙◌}
+use Rattle.std.proofs.Common.{◌≡◌, length, arith, ap}
 use Rattle.text.specs.Text.{decimal_text}
 use Rattle.text.proofs.Digits.{decimal_is}
 use Rattle.text.proofs.Stores.{copy_wrote}
