@@ -5,9 +5,11 @@ use mathlib.Core.Path.{◌≡◌, ap, ◌∙◌}
 use mathlib.Core.List.{[], ◌∷◌, ◌++◌}
 use mathlib.Core.Logic.{◌⊎◌, inl, inr}
 use native.Mathlib.Omega.{arith}
-use native.Mathlib.Nat.{pow-suc}
+use native.Mathlib.Nat.{pow-suc, one-le-pow}
 use borrow.Author.Tests.{le-ltb, lt-ltb}
 use lib.ListN.{length, length-append}
+use Rattle.std.specs.Prelude.{Option, None, Some, IfNone, IfSome}
+use Rattle.std.specs.Option.{unwrap_or}
 use Rattle.std.specs.Fmt.{decimal}
 use Rattle.std.proofs.lemmas.Bool.{cases_lt}
 use Rattle.std.proofs.lemmas.Fmt.{decimal_from_appends, length-decimal-le}
@@ -47,6 +49,14 @@ digits-below (suc places) (suc exponent) v below =
     let shorter : v / 10 < 10 ^ suc exponent = omega arith in
     omega (arith, digits-length places v, digits-below places exponent (v / 10) shorter)
 
+digits_above : (places exponent v : ℕ) → 10 ^ exponent ≤ v → exponent < places → exponent < length (digits places v)
+digits_above zero exponent v above fits = omega arith
+digits_above (suc places) zero v above fits = digits_some places v
+digits_above (suc places) (suc exponent) v above fits =
+    let tenth : 10 ^ exponent * 10 ≤ v = rw pow-suc at above in
+    let one : 1 ≤ 10 ^ exponent = one-le-pow exponent 10 (omega arith) in
+    omega (arith, digits-length places v, digits_above places exponent (v / 10) (omega arith) (omega arith))
+
 -- no number is longer than the most digits
 pub decimal-length : (v : ℕ) → length (decimal_text v) ≤ most_digits
 unfolding decimal_text
@@ -62,6 +72,24 @@ pub decimal-below : (exponent v : ℕ) → 0 < exponent → v < 10 ^ exponent �
 unfolding decimal_text
 decimal-below zero v some below = omega arith
 decimal-below (suc exponent) v some below = digits-below most_digits exponent v below
+
+-- any other has more digits than the power has zeros, as far as the most digits go
+pub decimal_above : (exponent v : ℕ) → exponent < most_digits → 10 ^ exponent ≤ v → exponent < length (decimal_text v)
+unfolding decimal_text
+decimal_above exponent v fits above = digits_above most_digits exponent v above fits
+
+-- The highest power of ten that is not above a number has one zero less than the number has digits, and 0, which no power is below, has one digit:
+-- the four facts are what the library says of its answer.
+pub power_digits : (v : ℕ) (power : Option ℕ)
+    → IfNone power (v ≡ 0)
+    → IfSome power (λ k. 10 ^ k ≤ v)
+    → IfSome power (λ k. v < 10 * 10 ^ k)
+    → IfSome power (λ k. k < most_digits)
+    → unwrap_or power 0 + 1 ≡ length (decimal_text v)
+power_digits v None nothing above below fits = omega (arith, decimal_some v, decimal-below 1 v (omega arith) (omega arith))
+power_digits v (Some k) nothing above below fits =
+    let under : v < 10 ^ suc k = rw pow-suc (omega arith) in
+    omega (arith, decimal_above k v fits above, decimal-below (suc k) v (omega arith) under)
 
 -- a number of 64 bits has the text that the library writes of it
 pub decimal_is : (v : ℕ) → v < 2 ^ 64 → decimal_text v ≡ decimal v

@@ -1,14 +1,14 @@
 -- Runs of stores, and texts written one after the other: two runs, the one behind the other, are one run. Assumes nothing.
-use Prim.Native.Nat.{ℕ, suc, ◌+◌, ◌-◌, ◌≤◌, ◌<◌}
+use Prim.Native.Nat.{ℕ, suc, ◌+◌, ◌≤◌, ◌<◌}
 use mathlib.Core.Path.{◌≡◌, refl, ap, sym, ◌∙◌}
 use mathlib.Core.List.{List, [], ◌∷◌, ◌++◌, append-nil, append_assoc}
 use native.Mathlib.Omega.{arith}
 use native.Mathlib.Numerals.{add-one}
 use native.Mathlib.Nat.{add-zero, add-suc, suc-add}
-use lib.ListN.{take, get_or, length, length-append, set}
-use lib.Seq.{sets, sets-eq, length-sets, take-suc, drop-drop}
+use lib.ListN.{take, drop, get_or, length, length-append, set}
+use lib.Seq.{sets, sets-eq, length-sets, take-suc}
 use Rattle.std.specs.List.{flat_map}
-use borrow.Rule.Slice.PartMut.{put_mid}
+use Rattle.std.proofs.lemmas.List.{take-append-drop}
 use Rattle.std.proofs.lemmas.Grind.{flat_map-append}
 use Rattle.std.proofs.lemmas.List.Concat.{flat_map-cons}
 use Rattle.std.proofs.lemmas.List.Folds.{length-flat_map-take}
@@ -26,15 +26,20 @@ sets_append out at (byte ∷ text) more =
 pub wrote-length : {before after : List ℕ} {at end : ℕ} {text : List ℕ} → Wrote before at text after end → length after ≡ length before
 wrote-length {before} {at = at} {text = text} wrote = ap length wrote.bytes ∙ length-sets before at text
 
--- a text that is copied into the places from `at` to `end`
-pub copy_wrote : (out : List ℕ) (at end : ℕ) (copied text : List ℕ)
-    → copied ≡ text
-    → end ≡ at + length text
+-- a text that is put between what stands before `at` and what stands behind `end`
+pub between_wrote : (out after : List ℕ) (at end : ℕ) (text : List ℕ)
+    → at + length text ≡ end
     → end ≤ length out
-    → Wrote out at text (put_mid at (end - at) out copied) end
-copy_wrote out at end copied text same whole fits =
-    let many : end - at ≡ length text = omega arith in
-    record { place = whole; bytes = rw (same, many, drop-drop, ← append_assoc) (sym (sets-eq text out at (omega arith))) }
+    → take at after ≡ take at out
+    → drop at after ≡ text ++ drop end out
+    → Wrote out at text after end
+between_wrote out after at end text whole fits before behind =
+    record {
+      place = sym whole;
+      bytes =
+        sym (take-append-drop at after)
+        ∙ rw (before, behind, ← whole, ← append_assoc) (sym (sets-eq text out at (omega arith)));
+    }
 
 -- one text after another is one text
 pub next : {before middle after : List ℕ} {at place end : ℕ} {text more : List ℕ}

@@ -5,7 +5,7 @@
 ghost use Rattle.std.specs.Prelude.{◌≡◌, cond, ◌+◌, ◌<◌, ◌≤◌, [], ◌∷◌, length, take};
 ghost use Rattle.text.specs.Text.{answer_text, decimal_text, field_text, fields_text, has_room, written, Wrote};
 
-use itoa::Buffer;
+use itoa::write_digits;
 use rows::Answer;
 
 // Every number of 64 bits has at most so many digits.
@@ -19,6 +19,13 @@ pub const MOST_TICKETS: usize = 64;
 
 // The places that are enough for any line, whatever its numbers: the code, fields for the value, the time and the tickets, and the newline.
 pub const ANSWER_ROOM: usize = MOST_DIGITS + FIELD_ROOM * (2 + MOST_TICKETS) + 1;
+
+// How many decimal digits a number has.
+fn digit_count(number: u64) -> usize
+    ensures { result ≡ length (decimal_text number) }
+{
+    number.checked_ilog10().unwrap_or(0) as usize + 1
+}
 
 // The buffer that an answer is written into, and the place up to which it is written.
 #[derive(Drop)]
@@ -44,10 +51,8 @@ impl Line<'_> {
         ensures wrote { Wrote self.old.out.now self.old.end (decimal_text number) self.new.out.now self.new.end }
         ensures same_reference { self.new.out.ghost_name ≡ self.old.out.ghost_name }
     {
-        let mut buffer = Buffer::new();
-        let digits = buffer.format(number).as_bytes();
-        let end = self.end + digits.len();
-        self.out[self.end..end].copy_from_slice(digits);
+        let end = self.end + digit_count(number);
+        write_digits(number, self.out, end);
         self.end = end;
     }
 

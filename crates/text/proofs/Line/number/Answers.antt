@@ -1,17 +1,19 @@
--- The number's text is the library's, copied in one piece. Assumes nothing.
-use Rattle.std.proofs.Common.{◌≡◌, length, arith, ap}
+-- The library writes the digits so that they end where they are to end, and so they begin where the line does. Assumes nothing.
+use Rattle.std.proofs.Common.{◌≡◌, ◌+◌, length, arith, ap}
+use Rattle.std.specs.Fmt.{decimal}
 use Rattle.text.specs.Text.{decimal_text}
 use Rattle.text.proofs.Digits.{decimal_is}
-use Rattle.text.proofs.Stores.{copy_wrote}
+use Rattle.text.proofs.Stores.{between_wrote}
 use Rattle.text.proofs.Line.number.Goals as goal
 
-pub slice_bounds-copy_from_slice-end : goal.slice_bounds-copy_from_slice-end
-slice_bounds-copy_from_slice-end c =
-    let same : c.as_bytes-digits.result.now ≡ decimal_text c.args.number = (cc (decimal_is c.args.number (omega arith))) in
-    omega (arith, ap length same)
+pub write_digits-requires : goal.write_digits-requires
+write_digits-requires c =
+    let same : decimal_text c.args.number ≡ decimal c.args.number = decimal_is c.args.number (omega arith) in
+    (omega (arith, ap length same), omega arith)
 
 pub returns-clause-wrote : goal.returns-clause-wrote
 returns-clause-wrote c =
-    let same : c.copy_from_slice.new.self ≡ decimal_text c.args.number = (cc (decimal_is c.args.number (omega arith))) in
-    let whole : length c.as_bytes-digits.result.now ≡ length (decimal_text c.args.number) = (cc (decimal_is c.args.number (omega arith))) in
-    copy_wrote _ _ _ _ _ same (omega arith) (omega arith)
+    let same : decimal_text c.args.number ≡ decimal c.args.number = decimal_is c.args.number (omega arith) in
+    let start : c.write_digits.result ≡ c.args.self.now.end = omega (arith, ap length same) in
+    between_wrote _ _ _ _ _ (omega (arith, ap length same)) (omega arith)
+    (rw start at c.write_digits.ensures.before) (rw (start, ← same) at c.write_digits.ensures.written)
