@@ -13,6 +13,8 @@ use Rattle.std.proofs.lemmas.Grind.{flat_map-append}
 use Rattle.std.proofs.lemmas.List.Concat.{flat_map-cons}
 use Rattle.std.proofs.lemmas.List.Folds.{length-flat_map-take}
 use Rattle.text.specs.Text.{field_text, fields_text, written, Wrote}
+use Rattle.text.specs.Writing.{Added, HasRoomFor}
+use Rattle.text.specs.declared.Line.{Line}
 
 -- a run of stores after another is one run
 pub sets_append : (out : List ℕ) (at : ℕ) (text more : List ℕ)
@@ -21,10 +23,6 @@ sets_append out at [] more = rw add-zero
 sets_append out at (byte ∷ text) more =
     ap (λ (place : ℕ). sets (sets (set out at byte) (suc at) text) place more) (add-suc at (length text) ∙ sym (suc-add at (length text)))
     ∙ sets_append (set out at byte) (suc at) text more
-
--- what is written leaves the length of the buffer
-pub wrote-length : {before after : List ℕ} {at end : ℕ} {text : List ℕ} → Wrote before at text after end → length after ≡ length before
-wrote-length {before} {at = at} {text = text} wrote = ap length wrote.bytes ∙ length-sets before at text
 
 -- a text that is put between what stands before `at` and what stands behind `end`
 pub between_wrote : (out after : List ℕ) (at end : ℕ) (text : List ℕ)
@@ -37,38 +35,51 @@ between_wrote out after at end text whole fits before behind =
     record {
       place = sym whole;
       bytes =
-        sym (take-append-drop at after)
-        ∙ rw (before, behind, ← whole, ← append_assoc) (sym (sets-eq text out at (omega arith)));
+          sym (take-append-drop at after)
+          ∙ rw (before, behind, ← whole, ← append_assoc) (sym (sets-eq text out at (omega arith)));
     }
 
 -- one text after another is one text
-pub next : {before middle after : List ℕ} {at place end : ℕ} {text more : List ℕ}
-    → Wrote before at text middle place
-    → Wrote middle place more after end
-    → Wrote before at (text ++ more) after end
-next {before} {at = at} {text = text} {more = more} first second =
+pub next : {before middle after : Line} {text more : List ℕ}
+    → Added before text middle
+    → Added middle more after
+    → Added before (text ++ more) after
+next {before} {text = text} {more = more} first second =
     record {
-      place = simp length-append (omega arith);
-      bytes = second.bytes ∙ rw (first.place, first.bytes) (sets_append before at text more);
+      wrote = record {
+        place = simp length-append (omega arith);
+        bytes = second.wrote.bytes ∙ rw (first.wrote.place, first.wrote.bytes) (sets_append before.out.now before.end text more);
+      };
+      same_reference = second.same_reference ∙ first.same_reference;
     }
 
-pub one_wrote : (out : List ℕ) (at byte : ℕ) → Wrote out at (byte ∷ []) (set out at byte) (at + 1)
-one_wrote out at byte = record { place = refl; bytes = refl }
+pub none_added : (line : Line) → Added line [] line
+none_added line = record { wrote = record { place = omega arith; bytes = refl }; same_reference = refl }
 
-pub none_wrote : (out : List ℕ) (at : ℕ) → Wrote out at [] out at
-none_wrote out at = record { place = omega arith; bytes = refl }
+-- where there is the room for two texts, there is the room for the first
+pub room_first : (line : Line) (text more : List ℕ) → HasRoomFor line (text ++ more) → HasRoomFor line text
+room_first line text more both = omega (arith, simp length-append at both)
+
+-- behind one text there is the room for another, where there was for both
+pub room_after : {before after : Line} {text : List ℕ} (more : List ℕ)
+    → Added before text after
+    → HasRoomFor before (text ++ more)
+    → HasRoomFor after more
+room_after {before} {after} {text} more added both =
+    let left : length after.out.now ≡ length before.out.now = ap length added.wrote.bytes ∙ length-sets before.out.now before.end text in
+    omega (arith, simp length-append at both)
 
 fields_each : (tickets : List ℕ) → fields_text tickets ≡ flat_map field_text tickets
 unfolding fields_text
 fields_each [] = refl
 fields_each (v ∷ rest) = ap (λ (more : List ℕ). field_text v ++ more) (fields_each rest) ∙ sym (flat_map-cons field_text v rest)
 
--- behind the first i tickets there is the room for one more
+-- the first i tickets and one more are no longer than all
 pub field_fits : (tickets : List ℕ) (i : ℕ)
     → i < length tickets
-    → length (fields_text (take i tickets)) + length (field_text (get_or tickets i 0)) ≤ length (fields_text tickets)
+    → length (fields_text (take i tickets) ++ field_text (get_or tickets i 0)) ≤ length (fields_text tickets)
 field_fits tickets i there =
-    rw (fields_each (take i tickets), fields_each tickets) (length-flat_map-take field_text tickets i 0 there)
+    rw (fields_each (take i tickets), fields_each tickets, length-append) (length-flat_map-take field_text tickets i 0 there)
 
 fields_more : (tickets : List ℕ) (v : ℕ) → fields_text (tickets ++ (v ∷ [])) ≡ fields_text tickets ++ field_text v
 fields_more tickets v =
@@ -76,12 +87,10 @@ fields_more tickets v =
     (ap (λ (more : List ℕ). flat_map field_text tickets ++ more) (append-nil (field_text v)))
 
 -- one more ticket after the first i
-pub field_wrote : {before middle after : List ℕ} {at place end : ℕ} (tickets : List ℕ) (i : ℕ)
+pub fields_take : (tickets : List ℕ) (i : ℕ)
     → i < length tickets
-    → Wrote before at (fields_text (take i tickets)) middle place
-    → Wrote middle place (field_text (get_or tickets i 0)) after end
-    → Wrote before at (fields_text (take (i + 1) tickets)) after end
-field_wrote tickets i there first second = rw (add-one, take-suc tickets i 0 there, fields_more) (next first second)
+    → fields_text (take (i + 1) tickets) ≡ fields_text (take i tickets) ++ field_text (get_or tickets i 0)
+fields_take tickets i there = rw (add-one, take-suc tickets i 0 there) (fields_more (take i tickets) (get_or tickets i 0))
 
 -- where the text fits, the bytes are those that a reader expects
 pub wrote_written : {before after : List ℕ} {at end : ℕ} {text : List ℕ}

@@ -3,7 +3,8 @@
 #![tactic(auto)]
 
 ghost use Rattle.std.specs.Prelude.{◌≡◌, cond, ◌+◌, ◌<◌, ◌≤◌, [], ◌∷◌, length, take};
-ghost use Rattle.text.specs.Text.{answer_text, decimal_text, field_text, fields_text, has_room, written, Wrote};
+ghost use Rattle.text.specs.Text.{answer_text, decimal_text, field_text, fields_text, has_room, written};
+ghost use Rattle.text.specs.Writing.{Added, HasRoomFor};
 
 use itoa::write_digits;
 use rows::Answer;
@@ -37,19 +38,17 @@ struct Line<'a> {
 impl Line<'_> {
     // Writes one byte.
     fn byte(&mut self, byte: u8)
-        requires { self.old.end < length self.old.out.now }
-        ensures wrote { Wrote self.old.out.now self.old.end (byte ∷ []) self.new.out.now self.new.end }
-        ensures same_reference { self.new.out.ghost_name ≡ self.old.out.ghost_name }
+        requires { HasRoomFor self.old (byte ∷ []) }
+        ensures { Added self.old (byte ∷ []) self.new }
     {
         self.out[self.end] = byte;
         self.end += 1;
     }
 
-    // Writes a number.
+    // Writes a number. `write!` into a slice promises how many bytes it took and not which: `write_digits` promises the bytes.
     fn number(&mut self, number: u64)
-        requires { self.old.end + length (decimal_text number) ≤ length self.old.out.now }
-        ensures wrote { Wrote self.old.out.now self.old.end (decimal_text number) self.new.out.now self.new.end }
-        ensures same_reference { self.new.out.ghost_name ≡ self.old.out.ghost_name }
+        requires { HasRoomFor self.old (decimal_text number) }
+        ensures { Added self.old (decimal_text number) self.new }
     {
         let end = self.end + digit_count(number);
         write_digits(number, self.out, end);
@@ -58,9 +57,8 @@ impl Line<'_> {
 
     // Writes a space and a number.
     fn field(&mut self, number: u64)
-        requires { self.old.end + length (field_text number) ≤ length self.old.out.now }
-        ensures wrote { Wrote self.old.out.now self.old.end (field_text number) self.new.out.now self.new.end }
-        ensures same_reference { self.new.out.ghost_name ≡ self.old.out.ghost_name }
+        requires { HasRoomFor self.old (field_text number) }
+        ensures { Added self.old (field_text number) self.new }
     {
         self.byte(b' ');
         self.number(number);
@@ -68,9 +66,8 @@ impl Line<'_> {
 
     // Writes the tickets, a space before each.
     fn fields(&mut self, tickets: &[u64])
-        requires { self.old.end + length (fields_text tickets.now) ≤ length self.old.out.now }
-        ensures wrote { Wrote self.old.out.now self.old.end (fields_text tickets.now) self.new.out.now self.new.end }
-        ensures same_reference { self.new.out.ghost_name ≡ self.old.out.ghost_name }
+        requires { HasRoomFor self.old (fields_text tickets.now) }
+        ensures { Added self.old (fields_text tickets.now) self.new }
     {
         for ticket in tickets {
             self.field(*ticket);
@@ -79,9 +76,8 @@ impl Line<'_> {
 
     // Writes the line of an answer.
     fn answer(&mut self, answer: Answer, tickets: &[u64])
-        requires { self.old.end + length (answer_text answer.code answer.value answer.time tickets.now) ≤ length self.old.out.now }
-        ensures wrote { Wrote self.old.out.now self.old.end (answer_text answer.code answer.value answer.time tickets.now) self.new.out.now self.new.end }
-        ensures same_reference { self.new.out.ghost_name ≡ self.old.out.ghost_name }
+        requires { HasRoomFor self.old (answer_text answer.code answer.value answer.time tickets.now) }
+        ensures { Added self.old (answer_text answer.code answer.value answer.time tickets.now) self.new }
     {
         self.number(answer.code as u64);
         self.field(answer.value);
@@ -100,7 +96,8 @@ fn has_room(at: usize, places: usize, count: usize, held: usize) -> bool
 }
 
 // Writes the line of an answer into out from `at` on, with the first `count` tickets, and answers the place after it.
-// Where it might not fit, or the tickets are not there, it writes nothing and answers `at`.
+// Where it might not fit, or the tickets are not there, it writes nothing and answers `at`: so `count` stays beside `tickets`, since a slice of
+// just these would ask its caller for them.
 pub fn write_answer(
     out: &mut [u8],
     at: usize,

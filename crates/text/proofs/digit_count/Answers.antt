@@ -1,5 +1,4 @@
 -- What the library says of the power of ten below a number is how many digits it has. Assumes nothing.
-use Rattle.std.proofs.Common.{◌∙◌, ap, ◌+◌}
 use Rattle.text.proofs.Digits.{power_digits}
 use Rattle.text.proofs.digit_count.Goals as goal
 

@@ -1,7 +1,7 @@
 -- A space is one text and the number another, and one text after another is one text. Assumes nothing.
 use Rattle.std.proofs.Common.{arith}
-use Rattle.text.specs.Text.{field_text}
-use Rattle.text.proofs.Stores.{next, wrote-length}
+use Rattle.text.specs.Text.{field_text, decimal_text}
+use Rattle.text.proofs.Stores.{next, room_after}
 use Rattle.text.proofs.Line.field.Goals as goal
 
 pub byte-requires : goal.byte-requires
@@ -10,8 +10,8 @@ byte-requires c = omega arith
 
 pub number-requires : goal.number-requires
 unfolding field_text
-number-requires c = omega (arith, wrote-length c.byte.ensures.wrote, c.byte.ensures.wrote.place)
+number-requires c = room_after (decimal_text c.args.number) c.byte.ensures c.requires
 
-pub returns-clause-wrote : goal.returns-clause-wrote
+pub returns : goal.returns
 unfolding field_text
-returns-clause-wrote c = next c.byte.ensures.wrote c.number.ensures.wrote
+returns c = next c.byte.ensures c.number.ensures
