@@ -162,16 +162,7 @@ pub fn feed(reader: Reader, part: &[u8], out: &mut [u8]) -> Fed
                     desk,
                 },
             }
-            let answer = next.answer;
-            at = text::write_answer(
-                out,
-                at,
-                answer.code,
-                answer.value,
-                answer.time,
-                &slice,
-                count,
-            );
+            at = text::write_answer(out, at, next.answer, &slice, count);
             held = 0;
         }
     }

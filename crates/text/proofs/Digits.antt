@@ -1,25 +1,19 @@
--- The digits of a number: how many there are, and that they can be had from the last to the first. Assumes nothing.
+-- The digits of a number: how many there are, and that they are those that the library writes. Assumes nothing.
 use Prim.Native.Char.{code}
 use Prim.Native.Nat.{ℕ, zero, suc, ◌+◌, ◌*◌, ◌/◌, ◌%◌, ◌^◌, ◌≤◌, ◌<◌}
-use mathlib.Core.Path.{◌≡◌, refl, ap, ◌∙◌}
-use mathlib.Core.List.{List, [], ◌∷◌, ◌++◌}
-use mathlib.Core.Bool.{Bool, true, false}
+use mathlib.Core.Path.{◌≡◌, ap, ◌∙◌}
+use mathlib.Core.List.{[], ◌∷◌, ◌++◌}
+use mathlib.Core.Logic.{◌⊎◌, inl, inr}
 use native.Mathlib.Omega.{arith}
-use native.Mathlib.Numerals.{add-one}
-use native.Mathlib.Nat.{pow-suc, one-le-pow, pow-le-pow_right}
-use borrow.Author.Tests.{le-ltb, lt-ltb, ltb-true, ltb-false}
-use lib.Dec.{ltb}
+use native.Mathlib.Nat.{pow-suc, one-le-pow}
+use borrow.Author.Tests.{le-ltb, lt-ltb}
 use lib.ListN.{length, length-append}
+use Rattle.std.specs.Prelude.{Option, None, Some, IfNone, IfSome}
+use Rattle.std.specs.Option.{unwrap_or}
+use Rattle.std.specs.Fmt.{decimal}
+use Rattle.std.proofs.lemmas.Bool.{cases_lt}
+use Rattle.std.proofs.lemmas.Fmt.{decimal_from_appends, length-decimal-le}
 use Rattle.text.specs.Text.{digits, decimal_text, most_digits}
-
--- a test goes one way or the other
-tested : {P : Type 0} (b : Bool) → (b ≡ true → P) → (b ≡ false → P) → P
-tested true passes fails = passes refl
-tested false passes fails = fails refl
-
--- a number is a digit, or it has a tenth and a last digit
-split : {P : Type 0} (v : ℕ) → (v < 10 → P) → (10 ≤ v → P) → P
-split v few more = tested (ltb v 10) (λ passed. few (ltb-true v 10 passed)) (λ failed. more (ltb-false v 10 failed))
 
 digits_few : (places v : ℕ) → v < 10 → digits (suc places) v ≡ (code "0" + v) ∷ []
 unfolding digits
@@ -29,40 +23,39 @@ digits_more : (places v : ℕ) → 10 ≤ v → digits (suc places) v ≡ digits
 unfolding digits
 digits_more places v more = simp (le-ltb _ _ more)
 
-length_few : (places v : ℕ) → v < 10 → length (digits (suc places) v) ≡ 1
-length_few places v few = ap length (digits_few places v few)
-
-length_more : (places v : ℕ) → 10 ≤ v → length (digits (suc places) v) ≡ length (digits places (v / 10)) + 1
-length_more places v more = ap length (digits_more places v more) ∙ simp length-append
+-- a number is one digit long, or one digit longer than its tenth
+digits-length : (places v : ℕ)
+    → ((v < 10) × (length (digits (suc places) v) ≡ 1))
+    ⊎ ((10 ≤ v) × (length (digits (suc places) v) ≡ length (digits places (v / 10)) + 1))
+digits-length places v = elim (cases_lt v 10) [
+  | inl few ↦ inl (few, ap length (digits_few places v few))
+  | inr more ↦ inr (more, ap length (digits_more places v more) ∙ simp length-append)
+]
 
 digits_within : (places v : ℕ) → length (digits places v) ≤ places
 unfolding digits
 digits_within zero v = omega arith
-digits_within (suc places) v =
-    split v
-    (λ few. omega (arith, length_few places v few))
-    (λ more. omega (arith, length_more places v more, digits_within places (v / 10)))
+digits_within (suc places) v = omega (arith, digits-length places v, digits_within places (v / 10))
 
 digits_some : (places v : ℕ) → 0 < length (digits (suc places) v)
-digits_some places v = split v (λ few. omega (arith, length_few places v few)) (λ more. omega (arith, length_more places v more))
+digits_some places v = omega (arith, digits-length places v)
 
 digits-below : (places exponent v : ℕ) → v < 10 ^ suc exponent → length (digits places v) ≤ suc exponent
 unfolding digits
 digits-below zero exponent v below = omega arith
-digits-below (suc places) zero v below = omega (arith, length_few places v below)
+digits-below (suc places) zero v below = omega (arith, digits-length places v)
 digits-below (suc places) (suc exponent) v below =
     let tenth : v < 10 ^ suc exponent * 10 = rw pow-suc at below in
-    split v
-    (λ few. omega (arith, length_few places v few))
-    (λ more. omega (arith, length_more places v more, digits-below places exponent (v / 10) (omega arith)))
+    let shorter : v / 10 < 10 ^ suc exponent = omega arith in
+    omega (arith, digits-length places v, digits-below places exponent (v / 10) shorter)
 
 digits_above : (places exponent v : ℕ) → 10 ^ exponent ≤ v → exponent < places → exponent < length (digits places v)
 digits_above zero exponent v above fits = omega arith
 digits_above (suc places) zero v above fits = digits_some places v
 digits_above (suc places) (suc exponent) v above fits =
     let tenth : 10 ^ exponent * 10 ≤ v = rw pow-suc at above in
-    let more : 10 ≤ v = omega (arith, one-le-pow exponent 10 (omega arith)) in
-    omega (arith, length_more places v more, digits_above places exponent (v / 10) (omega arith) (omega arith))
+    let one : 1 ≤ 10 ^ exponent = one-le-pow exponent 10 (omega arith) in
+    omega (arith, digits-length places v, digits_above places exponent (v / 10) (omega arith) (omega arith))
 
 -- no number is longer than the most digits
 pub decimal-length : (v : ℕ) → length (decimal_text v) ≤ most_digits
@@ -85,33 +78,22 @@ pub decimal_above : (exponent v : ℕ) → exponent < most_digits → 10 ^ expon
 unfolding decimal_text
 decimal_above exponent v fits above = digits_above most_digits exponent v above fits
 
--- a power of ten that has less than 19 zeros takes one more in 64 bits
-pub next_power : (exponent : ℕ) → exponent < 19 → 10 ^ exponent * 10 ≤ 10000000000000000000
-next_power exponent fits = rw (← pow-suc) (pow-le-pow_right {n = 10} (omega arith) {i = suc exponent} {j = 19} fits)
+-- The highest power of ten that is not above a number has one zero less than the number has digits, and 0, which no power is below, has one digit:
+-- the four facts are what the library says of its answer.
+pub power_digits : (v : ℕ) (power : Option ℕ)
+    → IfNone power (v ≡ 0)
+    → IfSome power (λ k. 10 ^ k ≤ v)
+    → IfSome power (λ k. v < 10 * 10 ^ k)
+    → IfSome power (λ k. k < most_digits)
+    → unwrap_or power 0 + 1 ≡ length (decimal_text v)
+power_digits v None nothing above below fits = omega (arith, decimal_some v, decimal-below 1 v (omega arith) (omega arith))
+power_digits v (Some k) nothing above below fits =
+    let under : v < 10 ^ suc k = rw pow-suc (omega arith) in
+    omega (arith, decimal_above k v fits above, decimal-below (suc k) v (omega arith) under)
 
--- the last `count` digits of v, leading zeros included: what is still to be written when the digits come from the last to the first
-unfoldable pub last_digits : ℕ → ℕ → List ℕ
-last_digits zero v = []
-last_digits (suc count) v = last_digits count (v / 10) ++ ((code "0" + v % 10) ∷ [])
-
-pub length_last : (count v : ℕ) → length (last_digits count v) ≡ count
-unfolding last_digits
-length_last zero v = refl
-length_last (suc count) v = simp length-append (omega (arith, length_last count (v / 10)))
-
-pub none_last : (count v : ℕ) → count ≡ 0 → last_digits count v ≡ []
-unfolding last_digits
-none_last count v none = rw none
-
--- as many last digits as the number has are the number
-digits_last : (places v : ℕ) → last_digits (length (digits places v)) v ≡ digits places v
-unfolding digits last_digits
-digits_last zero v = refl
-digits_last (suc places) v =
-    split v
-    (λ few. rw (digits_few places v few) (ap (λ (digit : ℕ). (code "0" + digit) ∷ []) (omega arith)))
-    (λ more. rw (digits_more places v more, length-append, add-one) (ap (λ (others : List ℕ). others ++ ((code "0" + v % 10) ∷ [])) (digits_last places (v / 10))))
-
-pub decimal_last : (v : ℕ) → last_digits (length (decimal_text v)) v ≡ decimal_text v
+-- a number of 64 bits has the text that the library writes of it
+pub decimal_is : (v : ℕ) → v < 2 ^ 64 → decimal_text v ≡ decimal v
 unfolding decimal_text
-decimal_last v = digits_last most_digits v
+decimal_is v small =
+    decimal_from_appends digits (record { one = digits_few; more = digits_more }) most_digits v small
+    (length-decimal-le most_digits v (omega arith) (omega arith) small)

@@ -5,7 +5,7 @@ use mathlib.Core.List.{List, [], ◌∷◌, ◌++◌}
 use native.Mathlib.Omega.{arith}
 use lib.ListN.{length, take, drop, length-append}
 use lib.Seq.{sets, sets-eq, length-sets, length-take-le, take_at}
-use Rattle.text.specs.Text.{field_room, field_text, fields_text, answer_text, written, most_tickets}
+use Rattle.text.specs.Text.{field_room, field_text, fields_text, answer_text, written, line_room, most_tickets}
 use Rattle.text.proofs.Digits.{decimal-length, decimal_some, decimal-below}
 use Rattle.text.proofs.Stores.{sets_append}
 
@@ -13,6 +13,13 @@ fields_length : (tickets : List ℕ) → length (fields_text tickets) ≤ field_
 unfolding fields_text field_text
 fields_length [] = omega arith
 fields_length (v ∷ rest) = simp length-append (omega (arith, decimal-length v, fields_length rest))
+
+-- a line has no more bytes than the room for one with so many tickets, whatever its numbers
+pub answer_fits : (code value time : ℕ) (tickets : List ℕ) → length (answer_text code value time tickets) ≤ line_room (length tickets)
+unfolding answer_text field_text
+answer_fits code value time tickets =
+    simp length-append
+    (omega (arith, decimal-length code, decimal-length value, decimal-length time, fields_length tickets))
 
 -- the longest line is 10 + 21 + 11 + 64 * 21 + 1 bytes: a code and a time have 32 bits and so at most 10 digits
 pub answer-length : (code value time : ℕ) (tickets : List ℕ)
