@@ -13,14 +13,13 @@ use Rattle.rows.proofs.Laws.{bool_cases}
 use Rattle.rows.proofs.Checks.{coded, passed, pass_decided, in_turn_lem, turned_zero}
 use Rattle.desk.specs.declared.Desk.{Desk}
 use Rattle.desk.specs.declared.Next.{Next}
+use Rattle.std.specs.Prelude.{Option, Some, None}
 use Rattle.calls.specs.declared.Bound.{Bound}
 use Rattle.calls.specs.declared.Deed.{Deed}
 use Rattle.calls.specs.declared.Call as InCode
 use Rattle.calls.specs.declared.Call.TheVariants.{By, Sweep}
 use Rattle.calls.specs.Calls.{by, sweep}
 use Rattle.desk.specs.Calls.{checks, told, outcome, step, slice_after}
-use Rattle.lines.specs.declared.Line.{Line}
-use Rattle.lines.specs.declared.Line.TheVariants.{Makes, Unreadable}
 use Rattle.lines.specs.Lines.{read_line}
 use Rattle.text.specs.Text.{has_room, answer_room, most_tickets, written}
 use Rattle.text.proofs.Room.{room}
@@ -53,14 +52,14 @@ abbrev turned : Next → ℕ → List ℕ → Turn
 turned next number slice = record { answer = next.answer; tickets = take number slice; desk = next.desk }
 
 -- what a line leaves is its turn, and the slice has the places and the tickets that are printed
-pub record Ran (d : Desk) (line : Line) (next : Next) (left : List ℕ) (number : ℕ) : Type 0 where
+pub record Ran (d : Desk) (line : Option InCode.Call) (next : Next) (left : List ℕ) (number : ℕ) : Type 0 where
   pub turns : turn_by d line ≡ turned next number left
   pub few : number ≤ most_tickets
   pub long : length left ≡ most_tickets
 
 -- a deed prints no ticket and leaves the slice
-pub deed_ran : {d : Desk} {line : Line} {call : InCode.Call} {thread : ℕ} {made deed : Deed} {next : Next} {left : List ℕ} {number : ℕ}
-    → line ≡ Makes call
+pub deed_ran : {d : Desk} {line : Option InCode.Call} {call : InCode.Call} {thread : ℕ} {made deed : Deed} {next : Next} {left : List ℕ} {number : ℕ}
+    → line ≡ Some call
     → call ≡ By thread made
     → made ≡ deed
     → next ≡ step d (by thread deed)
@@ -81,8 +80,8 @@ taken true number slice = refl
 taken false number slice = refl
 
 -- a sweep hands its tickets back in the slice
-pub sweep_ran : {d : Desk} {line : Line} {call : InCode.Call} {bound : Bound} {swept next : Next} {tickets left : List ℕ} {number : ℕ}
-    → line ≡ Makes call
+pub sweep_ran : {d : Desk} {line : Option InCode.Call} {call : InCode.Call} {bound : Bound} {swept next : Next} {tickets left : List ℕ} {number : ℕ}
+    → line ≡ Some call
     → call ≡ Sweep bound
     → (swept ≡ step d (sweep bound slice)) × (tickets ≡ slice_after d (sweep bound slice))
     → length tickets ≡ most_tickets
@@ -98,8 +97,8 @@ sweep_ran {d} {bound} makes sweeps steps long next left number = record {
 }
 
 -- a line that is not readable changes nothing
-pub unreadable_ran : {d : Desk} {line : Line} {next : Next} {left : List ℕ} {number : ℕ}
-    → line ≡ Unreadable
+pub unreadable_ran : {d : Desk} {line : Option InCode.Call} {next : Next} {left : List ℕ} {number : ℕ}
+    → line ≡ None
     → next ≡ record { answer = answer unreadable 0 0; desk = d }
     → left ≡ slice
     → number ≡ 0
@@ -111,7 +110,7 @@ unreadable_ran is stays left none = record { turns = rw (is, none, stays); few =
 
 -- from what reading it, running its call and writing its answer promise, with the room for an answer:
 -- the next desk, the place behind the answer and the bytes of out are those of its turn
-pub turn-written : (d : Desk) (line : List ℕ) (said : Line) (next : Next) (left : List ℕ) (number : ℕ) (out : List ℕ) (at : ℕ) (after : List ℕ) (end : ℕ)
+pub turn-written : (d : Desk) (line : List ℕ) (said : Option InCode.Call) (next : Next) (left : List ℕ) (number : ℕ) (out : List ℕ) (at : ℕ) (after : List ℕ) (end : ℕ)
     → said ≡ read_line line
     → Ran d said next left number
     → at + answer_room ≤ length out
