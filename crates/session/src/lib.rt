@@ -68,6 +68,7 @@ fn swept_count(answer: Answer) -> u64
 }
 
 // The start of a session.
+#[tactic(auto, unfolding(crate::specs::Stream::start))]
 pub fn started() -> Reader
     ensures { result ≡ start }
 {
