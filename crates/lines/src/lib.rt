@@ -50,7 +50,7 @@ pub fn read(line: &[u8]) -> Option<Call>
     called(*letter, numbers)
 }
 
-// The largest that each number behind a letter may be. Behind a byte that is no letter stands none.
+// The largest that each number behind a letter may be. Behind w, W and a byte that is no letter stands none.
 #[tactic(auto, unfolding(crate::specs::Lines::form_among))]
 fn largest_of(letter: u8) -> &'static [u64]
     ensures { (limits_from result.now ≡ (form_of letter).limits) × WithinLine result.now }
@@ -77,7 +77,7 @@ fn number_of(field: &[u8], largest: u64) -> Option<u64>
         let b'0'..=b'9' = *byte else {
             return None;
         };
-        let digit = (*byte - b'0') as u64;
+        let digit = u64::from(*byte - b'0');
         if value > largest / 10 {
             return None;
         }

@@ -24,7 +24,7 @@ pub loop-byte-preserved : goal.loop-byte-preserved
 loop-byte-preserved c =
     record {
       small = omega arith;
-      same = c.loop-byte.invariant.same ∙ met_digit _ _ _ _ c.loop-byte-test.true (omega arith) (omega arith);
+      same = rw c.from-digit.ensures (c.loop-byte.invariant.same ∙ met_digit _ _ _ _ c.loop-byte-test.true (omega arith) (omega arith));
     }
 
 pub returns : goal.returns
