@@ -2,7 +2,7 @@
 -- Assumes nothing.
 use mathlib.Core.Bool.{Bool, true, false, cond}
 use mathlib.Core.List.{List, [], ◌∷◌}
-use mathlib.Core.Option.{Option, none, some}
+use Rattle.std.specs.Prelude.{Option, None, Some}
 use mathlib.Core.Path.{◌≡◌, refl}
 use Prim.Native.Char.{Char, code}
 use Prim.Native.Nat.{ℕ, zero, suc, ◌<◌}
@@ -10,9 +10,8 @@ use native.Mathlib.Omega.{arith}
 use lib.Dec.{eqb, leb}
 use lib.ListN.{length, get_or}
 use Rattle.lines.specs.Lines.{fields_of, number_below, with_number, numbers_of, Form, no_form, forms, form_among, form_of, line_with, line_of, longest_line, read_line}
+use Rattle.calls.specs.declared.Call.{Call}
 use Rattle.lines.specs.Claims.{Determined, NumbersDetermine, PassableLine, LinesPassable}
-use Rattle.lines.specs.declared.Line.{Line}
-use Rattle.lines.specs.declared.Line.TheVariants.{Unreadable}
 use Rattle.lines.proofs.Numbers.{number_below_lem}
 
 -- ---- what holds of each row, and of no letter, holds of every byte
@@ -89,16 +88,16 @@ forms_passable letter =
 
 -- the numbers that were read, if they were
 abbrev ReadBelow : List ℕ → Option (List ℕ) → Type 0
-ReadBelow limits none = Unit {0}
-ReadBelow limits (some numbers) = Below limits (λ place. get_or numbers place 0)
+ReadBelow limits None = Unit {0}
+ReadBelow limits (Some numbers) = Below limits (λ place. get_or numbers place 0)
 
 more_below : (limit : ℕ) (limits : List ℕ) (read : Option ℕ) (rest : Option (List ℕ))
-    → ((value : ℕ) → read ≡ some value → value < limit)
+    → ((value : ℕ) → read ≡ Some value → value < limit)
     → ReadBelow limits rest
     → ReadBelow (limit ∷ limits) (with_number read rest)
-more_below limit limits none rest first others = tt
-more_below limit limits (some value) none first others = tt
-more_below limit limits (some value) (some numbers) first others = by
+more_below limit limits None rest first others = tt
+more_below limit limits (Some value) None first others = tt
+more_below limit limits (Some value) (Some numbers) first others = by
   where
     by : Below (limit ∷ limits) (λ place. get_or (value ∷ numbers) place 0)
     by zero inside = first value refl
@@ -113,8 +112,8 @@ numbers_below (limit ∷ limits) (field ∷ fields) =
     more_below limit limits (number_below limit field) (numbers_of limits fields) (number_below_lem limit field) (numbers_below limits fields)
 
 with_passable : (form : Form) (numbers : Option (List ℕ)) → PassableForm form → ReadBelow form.limits numbers → PassableLine (line_with form numbers)
-with_passable form none passable below = tt
-with_passable form (some numbers) passable below = passable (λ place. get_or numbers place 0) below
+with_passable form None passable below = tt
+with_passable form (Some numbers) passable below = passable (λ place. get_or numbers place 0) below
 
 fields_passable : (fields : List (List ℕ)) → PassableLine (line_of fields)
 unfolding line_of
@@ -125,7 +124,7 @@ fields_passable ((letter ∷ []) ∷ fields) =
     (numbers_below (form_of letter).limits fields)
 fields_passable ((letter ∷ (byte ∷ bytes)) ∷ fields) = tt
 
-short_passable : (short : Bool) (line : Line) → PassableLine line → PassableLine (cond short line Unreadable)
+short_passable : (short : Bool) (line : Option Call) → PassableLine line → PassableLine (cond short line None)
 short_passable true line passable = passable
 short_passable false line passable = tt
 

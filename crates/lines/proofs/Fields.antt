@@ -1,137 +1,103 @@
--- The fields of a line, met from left to right. Assumes nothing.
-use mathlib.Core.Bool.{Bool, true, false, cond}
-use mathlib.Core.List.{List, [], ◌∷◌}
-use mathlib.Core.Option.{Option, none, some}
-use mathlib.Core.Path.{◌≡◌, refl, ap, ◌∙◌}
-use Prim.Native.Nat.{ℕ, ◌+◌, ◌-◌, ◌*◌, ◌≤◌, ◌<◌}
-use native.Mathlib.Numerals.{add-one}
-use native.Mathlib.Omega.{arith}
-use borrow.Author.Tests.{eq-eqb, ne_eqb}
-use lib.Dec.{eqb}
-use lib.ListN.{length, drop, get_or, drop_of_length-le}
-use lib.Seq.{drop-cons}
-use Rattle.lines.specs.Lines.{fields_of, join_first, number_below}
-use Rattle.lines.specs.Reading.{first_field, field_from, found, field_at}
-use Rattle.lines.specs.declared.Field.TheVariants.{Value, Other}
-use Rattle.lines.proofs.Numbers.{
-  number_from,
-  from_zero,
-  no_bytes,
-  at-end,
-  one_digit,
-  below-digits,
-  above_digits,
-  too_large,
-}
+-- The fields of a line as the code meets them: the parts between the spaces, one after the other. Assumes nothing.
+use Rattle.std.proofs.Common.{◌≡◌, ◌≤◌, ◌<◌, ℕ, Bool, true, false, cond, List, [], ◌∷◌, ◌++◌, length, get_or, eqb, Option, Some, None, is_some, refl, ap, subst, ◌∙◌, arith}
+use Rattle.std.specs.Bool.{MatchBool}
+use Rattle.std.specs.Fn.{CalledAt, ComputesKey}
+use Rattle.std.specs.List.{slice_split, onto_first, All, IsFirstMatchOrLen}
+use Rattle.std.specs.Slice.Iter.{split_rest, split_done, split_callee, split_steps}
+use Rattle.std.specs.declared.slice.Split.{Split}
+use Rattle.std.proofs.lemmas.Fn.{always_returns_same}
+use Rattle.std.proofs.lemmas.Grind.{common_steps}
+use Rattle.std.proofs.lemmas.List.Splits.{slice_split_none, slice_split_at}
+use denote.Param.Members.{Mut}
+use denote.Ref.{Bor}
+use Rattle.lines.specs.Lines.{space, fields_of, join_first}
 
--- what is left of a field at a place of the line
-module _ (line : List ℕ) (at : ℕ) where
-  pub left-at-end : length line ≤ at → field_from line at ≡ []
-  unfolding first_field
-  left-at-end past = rw (drop_of_length-le line past)
+-- ---- the library parts a line as the definition does
 
-  pub left-at-space : at < length line → get_or line at 0 ≡ 32 → field_from line at ≡ []
-  unfolding first_field
-  left-at-space here space = rw (drop-cons line at 0 here) (simp (eq-eqb _ _ space))
+abbrev pub parts : List ℕ → List (List ℕ)
+parts line = slice_split (λ byte. eqb byte space) line
 
-  left_more : at < length line
-      → (get_or line at 0 ≡ 32 → ⊥)
-      → field_from line at ≡ get_or line at 0 ∷ field_from line (at + 1)
-  unfolding first_field
-  left_more here other = rw (drop-cons line at 0 here) (simp (ne_eqb _ _ other, add-one))
+joined_alike : (byte : ℕ) (fields : List (List ℕ)) → onto_first byte fields ≡ join_first byte fields
+joined_alike byte [] = refl
+joined_alike byte (field ∷ fields) = refl
 
--- A number under way: its field starts at `from`, and the bytes before `at` are digits that come to `value`.
-pub record UnderWay (limit : ℕ) (line : List ℕ) (from at value : ℕ) : Type 0 where
-  pub ahead : from ≤ at
-  pub small : value < limit
-  pub same_end : from + length (field_from line from) ≡ at + length (field_from line at)
-  pub same_number : number_from limit 0 (field_from line from) ≡ number_from limit value (field_from line at)
+split_by : (apart : Bool) (byte : ℕ) (bytes : List ℕ)
+    → parts bytes ≡ fields_of bytes
+    → cond apart ([] ∷ parts bytes) (onto_first byte (parts bytes)) ≡ cond apart ([] ∷ fields_of bytes) (join_first byte (fields_of bytes))
+split_by true byte bytes rest = ap (λ (fields : List (List ℕ)). [] ∷ fields) rest
+split_by false byte bytes rest = joined_alike byte (parts bytes) ∙ ap (join_first byte) rest
 
-pub set_out : (limit : ℕ) (line : List ℕ) (from : ℕ) → 0 < limit → UnderWay limit line from from 0
-set_out limit line from above = record { ahead = omega arith; small = above; same_end = refl; same_number = refl }
+pub fields_split : (line : List ℕ) → parts line ≡ fields_of line
+unfolding fields_of
+fields_split [] = refl
+fields_split (byte ∷ bytes) = split_by (eqb byte space) byte bytes (fields_split bytes)
 
-module _ {limit : ℕ} {line : List ℕ} {from at value : ℕ} (way : UnderWay limit line from at value) where
-  pub one_further : at < length line
-      → 48 ≤ get_or line at 0
-      → get_or line at 0 ≤ 57
-      → value * 10 + (get_or line at 0 - 48) < limit
-      → UnderWay limit line from (at + 1) (value * 10 + (get_or line at 0 - 48))
-  one_further here low high fits =
-      let more = left_more line at here (λ e. omega arith) in
-      record {
-        ahead = omega (arith, way.ahead);
-        small = fits;
-        same_end = omega (arith, way.same_end, ap length more);
-        same_number = way.same_number ∙ ap (number_from limit value) more ∙ one_digit limit value (get_or line at 0) _ low high;
-      }
+-- a line has at least one field
+some_by : (apart : Bool) (byte : ℕ) (fields : List (List ℕ))
+    → (first : List ℕ) × (more : List (List ℕ)) × (cond apart ([] ∷ fields) (join_first byte fields) ≡ first ∷ more)
+some_by true byte fields = ([], fields, refl)
+some_by false byte [] = (byte ∷ [], [], refl)
+some_by false byte (field ∷ fields) = (byte ∷ field, fields, refl)
 
-  no_number : 0 < length (field_from line at)
-      → number_from limit value (field_from line at) ≡ none
-      → field_at limit line from ≡ Other
-  unfolding field_at
-  no_number filled says =
-      ap (λ (x : Option ℕ). found x (from + length (field_from line from)))
-      (from_zero limit (field_from line from) (omega (arith, way.ahead, way.same_end)) ∙ way.same_number ∙ says)
+pub some_field : (line : List ℕ) → (first : List ℕ) × (more : List (List ℕ)) × (fields_of line ≡ first ∷ more)
+unfolding fields_of
+some_field [] = ([], [], refl)
+some_field (byte ∷ bytes) = some_by (eqb byte space) byte (fields_of bytes)
 
-  pub past_limit : at < length line
-      → 48 ≤ get_or line at 0
-      → get_or line at 0 ≤ 57
-      → limit ≤ value * 10 + (get_or line at 0 - 48)
-      → field_at limit line from ≡ Other
-  past_limit here low high past =
-      let more = left_more line at here (λ e. omega arith) in
-      no_number (omega (arith, ap length more))
-      (ap (number_from limit value) more ∙ one_digit limit value (get_or line at 0) _ low high ∙ too_large limit _ _ past)
+-- ---- the fields that an iterator has left
 
-  pub below_digit : at < length line
-      → (get_or line at 0 ≡ 32 → ⊥)
-      → get_or line at 0 < 48
-      → field_at limit line from ≡ Other
-  below_digit here other low =
-      let more = left_more line at here other in
-      no_number (omega (arith, ap length more))
-      (ap (number_from limit value) more ∙ below-digits limit value (get_or line at 0) _ low)
+unfoldable pub left : {F : Type 0} → Split ℕ F → List (List ℕ)
+left s = cond (split_done s) [] (parts (split_rest s))
 
-  pub above_digit : at < length line → 57 < get_or line at 0 → field_at limit line from ≡ Other
-  above_digit here high =
-      let more = left_more line at here (λ e. omega arith) in
-      no_number (omega (arith, ap length more))
-      (ap (number_from limit value) more ∙ above_digits limit value (get_or line at 0) _ high)
+pub all_left : {F : Type 0} (s : Split ℕ F) (line : List ℕ) → split_rest s ≡ line → split_done s ≡ false → left s ≡ fields_of line
+unfolding left
+all_left s line rest more = ap (λ (b : Bool). cond b [] (parts (split_rest s))) more ∙ ap parts rest ∙ fields_split line
 
-  pub empty_field : field_from line at ≡ [] → at ≡ from → field_at limit line from ≡ Other
-  unfolding field_at
-  empty_field done e =
-      ap (λ (x : Option ℕ). found x (from + length (field_from line from)))
-      (no_bytes limit (field_from line from) (omega (arith, way.same_end, ap length done, e)))
+pub none_left : {F : Type 0} (s : Split ℕ F) → split_done s ≡ true → left s ≡ []
+unfolding left
+none_left s done = ap (λ (b : Bool). cond b [] (parts (split_rest s))) done
 
-  says_number : field_from line at ≡ [] → from < at → number_below limit (field_from line from) ≡ some value
-  says_number done further =
-      from_zero limit (field_from line from) (omega (arith, way.same_end, ap length done))
-      ∙ way.same_number
-      ∙ ap (number_from limit value) done
-      ∙ at-end limit value way.small
+part_by : (rest part after : List ℕ) (done : Bool)
+    → MatchBool done (rest ≡ part) ((byte : ℕ) × (rest ≡ part ++ (byte ∷ after)))
+    → IsFirstMatchOrLen (λ byte. eqb byte space) rest (length part)
+    → parts rest ≡ part ∷ cond done [] (parts after)
+part_by rest part after true e first =
+    ap parts e ∙ slice_split_none (λ byte. eqb byte space) part (λ k d l. subst (λ (bytes : List ℕ). eqb (get_or bytes k d) space ≡ false) e (first.0 k d (omega arith) l))
+part_by rest part after false e first =
+    let front : All (λ byte. eqb byte space ≡ false) part = λ k d l. let a = first.0 k d (omega arith) l in let b = e.1 in grind (arith, common_steps) in
+    let hit : eqb e.0 space ≡ true = let b = e.1 in let a = first.1 (grind (arith, common_steps)) e.0 in grind (arith, common_steps) in
+    ap parts e.1 ∙ slice_split_at (λ byte. eqb byte space) part e.0 after front hit
 
-  pub whole_field : field_from line at ≡ [] → (at ≡ from → ⊥) → field_at limit line from ≡ Value value at
-  unfolding field_at
-  whole_field done further =
-      let end : from + length (field_from line from) ≡ at = omega (arith, way.same_end, ap length done) in
-      rw (end, says_number done (omega (arith, way.ahead, further)))
+-- a call that gives a field takes the first of those that are left
+pub one_left : {F : Type 0} (g : Mut F (Bor ℕ × Unit {0}) Bool) (s t : Split ℕ F) (field : Bor (List ℕ))
+    → ((byte : ℕ) (apart : Bool) (f : F) → CalledAt g (split_callee s) byte apart f → (f ≡ split_callee s) × (apart ≡ eqb byte space))
+    → split_steps g s (Some field) t
+    → left s ≡ field.now ∷ left t
+unfolding left
+one_left g s t field tests steps =
+    let computes : ComputesKey g (λ byte. eqb byte space) (split_callee s) =
+    always_returns_same g (λ a r. r ≡ eqb a.0.now space) (split_callee s) (λ a r q k. let m = tests a.0.now r q (record { shown = a.0; shows = refl; called = k }) in (m.1, m.0)) in
+    ap (λ (b : Bool). cond b [] (parts (split_rest s))) steps.0
+    ∙ part_by (split_rest s) field.now (split_rest t) (split_done t) steps.1 (steps.2 (λ byte. eqb byte space) computes).1
 
--- what follows a field: nothing, or a space and the fields behind it
-abbrev pub behind : List ℕ → List (List ℕ)
-behind [] = []
-behind (space ∷ bytes) = fields_of bytes
+pub some_left : {F : Type 0} (g : Mut F (Bor ℕ × Unit {0}) Bool) (s t : Split ℕ F) (field : Option (Bor (List ℕ)))
+    → ((byte : ℕ) (apart : Bool) (f : F) → CalledAt g (split_callee s) byte apart f → (f ≡ split_callee s) × (apart ≡ eqb byte space))
+    → split_steps g s field t
+    → true ≡ is_some field
+    → (first : List ℕ) × (left s ≡ first ∷ left t)
+some_left g s t None tests steps e = cc
+some_left g s t (Some field) tests steps e = (field.now, one_left g s t field tests steps)
 
-first_by : (space : Bool) (byte : ℕ) (bytes : List ℕ)
-    → fields_of bytes ≡ first_field bytes ∷ behind (drop (length (first_field bytes)) bytes)
-    → cond space ([] ∷ fields_of bytes) (join_first byte (fields_of bytes))
-    ≡ cond space [] (byte ∷ first_field bytes)
-    ∷ behind (drop (length (cond space [] (byte ∷ first_field bytes))) (byte ∷ bytes))
-first_by true byte bytes rest = refl
-first_by false byte bytes rest = ap (join_first byte) rest
+pub no_more_left : {F : Type 0} (g : Mut F (Bor ℕ × Unit {0}) Bool) (s t : Split ℕ F) (field : Option (Bor (List ℕ)))
+    → split_steps g s field t
+    → false ≡ is_some field
+    → left s ≡ []
+no_more_left g s t None steps e = none_left s steps.0
+no_more_left g s t (Some field) steps e = cc
 
-pub first_and_behind : (bytes : List ℕ)
-    → fields_of bytes ≡ first_field bytes ∷ behind (drop (length (first_field bytes)) bytes)
-unfolding fields_of first_field
-first_and_behind [] = refl
-first_and_behind (byte ∷ bytes) = first_by (eqb byte 32) byte bytes (first_and_behind bytes)
+-- ---- a field of one byte
+
+pub one_byte : (field : List ℕ) → 1 ≤ length field → length field < 2 → field ≡ get_or field 0 0 ∷ []
+one_byte [] some short = absurd (omega arith)
+one_byte (byte ∷ []) some short = refl
+one_byte (byte ∷ (second ∷ bytes)) some short = absurd (omega arith)

@@ -1,10 +1,9 @@
--- Lines read from left to right: a number, the fields, the numbers behind a letter; the reasons of a line that is not readable; what holds of every
--- line; and lines computed.
+-- Lines read from left to right: a number, the fields; the reasons of a line that is not readable; what holds of every line; and lines computed.
 pub mod Numbers
 pub mod Fields
 pub mod Behind
 pub mod Letters
-pub mod Reasons
+pub mod Bytes
 pub mod Order
 pub mod Every
 pub mod Told

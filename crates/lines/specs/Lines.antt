@@ -1,6 +1,5 @@
 -- Document 01, "The session program": the call that a line of bytes is. Assumes nothing.
-use Rattle.std.specs.Prelude.{Bool, true, false, cond, ◌&&◌, List, [], ◌∷◌, ℕ, ◌+◌, ◌-◌, ◌*◌, eqb, leb, ltb, length, get_or}
-use Rattle.std.proofs.Math.Option.{Option, none, some}
+use Rattle.std.specs.Prelude.{Bool, true, false, cond, ◌&&◌, List, [], ◌∷◌, ℕ, ◌+◌, ◌-◌, ◌*◌, eqb, leb, ltb, length, get_or, Option, Some, None}
 use Prim.Native.Char.{Char, code}
 use Rattle.calls.specs.declared.Bound.TheVariants.{Weak, Strong}
 use Rattle.calls.specs.declared.Call.{Call}
@@ -8,8 +7,6 @@ use Rattle.calls.specs.declared.Call.TheVariants.{By, Sweep}
 use Rattle.calls.specs.declared.Deed.TheVariants.{Channel, NewThread, AttachInput, AttachOutput, Detach, End, Set, Put, Get, Consume, ConsumeUntil}
 use Rattle.calls.specs.declared.Which.TheVariants.{Earliest, Latest, Named}
 use Rattle.calls.specs.Calls.{number_limit, ticket_limit}
-use Rattle.lines.specs.declared.Line.{Line}
-use Rattle.lines.specs.declared.Line.TheVariants.{Makes, Unreadable}
 
 -- ---- the fields of a line: its bytes, parted at each space
 
@@ -44,37 +41,37 @@ decimal before (byte ∷ bytes) = decimal (before * 10 + (byte - code "0")) byte
 -- what a field says: a number below the limit, or nothing
 abbrev pub number_below : ℕ → List ℕ → Option ℕ
 number_below limit field =
-    cond (is_empty field) none (cond (all_digits field && ltb (decimal 0 field) limit) (some (decimal 0 field)) none)
+    cond (is_empty field) None (cond (all_digits field && ltb (decimal 0 field) limit) (Some (decimal 0 field)) None)
 
 -- ---- the numbers of a line
 
 -- a number that was read before others: where either is nothing, "every other line .. answers `99 0 0`"
 abbrev pub with_number : Option ℕ → Option (List ℕ) → Option (List ℕ)
-with_number none numbers = none
-with_number (some number) none = none
-with_number (some number) (some numbers) = some (number ∷ numbers)
+with_number None numbers = None
+with_number (Some number) None = None
+with_number (Some number) (Some numbers) = Some (number ∷ numbers)
 
 -- "decimal numbers, one space before each": as many as there are limits, each in a field of its own and below its limit; or nothing
 unfoldable pub numbers_of : List ℕ → List (List ℕ) → Option (List ℕ)
-numbers_of [] [] = some []
-numbers_of [] (field ∷ fields) = none
-numbers_of (limit ∷ limits) [] = none
+numbers_of [] [] = Some []
+numbers_of [] (field ∷ fields) = None
+numbers_of (limit ∷ limits) [] = None
 numbers_of (limit ∷ limits) (field ∷ fields) = with_number (number_below limit field) (numbers_of limits fields)
 
 -- ---- the letters
 
--- what follows a letter and what it makes: the limits of its numbers, and the line that they make, in which `n 0` is the first of them
+-- what follows a letter and what it makes: the limits of its numbers, and what the line with them says, in which `n 0` is the first of them
 pub record Form : Type 0 where
   pub limits : List ℕ
-  pub line : (n : ℕ → ℕ) → Line
+  pub line : (n : ℕ → ℕ) → Option Call
 
 -- the row of a letter that makes a call
 abbrev pub makes : List ℕ → ((ℕ → ℕ) → Call) → Form
-makes limits call = record { limits = limits; line = λ n. Makes (call n) }
+makes limits call = record { limits = limits; line = λ n. Some (call n) }
 
 -- a byte that is no letter: no number follows it, and it makes no call
 abbrev pub no_form : Form
-no_form = record { limits = []; line = λ n. Unreadable }
+no_form = record { limits = []; line = λ n. None }
 
 -- "`c t`, `n t v`, `i t c`, `o t c`, `d t k`, `e t`, `s t v`, `p t k ts ticket`, `g t k` (earliest), `G t k` (latest),
 -- `x t k ts` (named), `f t k ts` (consume), `u t k ts` (until), `w`, `W` (weak, strong)."
@@ -109,21 +106,21 @@ form_of byte = form_among forms byte
 -- ---- the line
 
 -- the line of a form with the numbers that were read, or "every other line" where they were not
-abbrev pub line_with : Form → Option (List ℕ) → Line
-line_with form none = Unreadable
-line_with form (some numbers) = form.line (λ place. get_or numbers place 0)
+abbrev pub line_with : Form → Option (List ℕ) → Option Call
+line_with form None = None
+line_with form (Some numbers) = form.line (λ place. get_or numbers place 0)
 
 -- "A line is a letter, then decimal numbers, one space before each": the first field is the letter alone, the others are the numbers
-unfoldable pub line_of : List (List ℕ) → Line
-line_of [] = Unreadable
-line_of ([] ∷ fields) = Unreadable
+unfoldable pub line_of : List (List ℕ) → Option Call
+line_of [] = None
+line_of ([] ∷ fields) = None
 line_of ((letter ∷ []) ∷ fields) = line_with (form_of letter) (numbers_of (form_of letter).limits fields)
-line_of ((letter ∷ (byte ∷ bytes)) ∷ fields) = Unreadable
+line_of ((letter ∷ (byte ∷ bytes)) ∷ fields) = None
 
 -- "lines of at most 80 bytes"
 abbrev pub longest_line : ℕ
 longest_line = 80
 
 -- "Every other line, the empty and the overlong included, answers `99 0 0` and changes nothing."
-unfoldable pub read_line : List ℕ → Line
-read_line bytes = cond (leb (length bytes) longest_line) (line_of (fields_of bytes)) Unreadable
+unfoldable pub read_line : List ℕ → Option Call
+read_line bytes = cond (leb (length bytes) longest_line) (line_of (fields_of bytes)) None

@@ -1,176 +1,120 @@
 // A line of a session, read as a call.
 #![tactic(auto)]
 
-ghost use Rattle.std.specs.Prelude.{◌≡◌, ◌+◌, drop, get_or};
-ghost use Rattle.lines.specs.Lines.{form_of, line_with, read_line};
-ghost use Rattle.lines.specs.Reading.{WithinLine, FirstThreeNumbers, field_at, limits_from, numbers_in};
+ghost use Rattle.std.specs.Prelude.{◌≡◌, ◌+◌, get_or};
+ghost use Rattle.lines.specs.Lines.{form_of, number_below, read_line};
+ghost use Rattle.lines.specs.Reading.{FirstThreeNumbers, WithinLine, limits_from};
 
 use calls::{Bound, Call, Deed, Which};
+pub use reasons::Fault;
 
 pub mod faults;
-
-// What a line says: its call, or nothing that can be read.
-#[derive(Clone, Copy)]
-pub enum Line {
-    Makes(Call),
-    Unreadable,
-}
-
-// How many numbers follow a letter, and the largest that each may be.
-#[derive(Clone, Copy)]
-struct Limits(usize, [u64; MOST_NUMBERS]);
-
-// What fills a field of a line: a number, with the place where the field ends, or something else.
-#[derive(Clone, Copy)]
-enum Field {
-    Value(u64, usize),
-    Other,
-}
+mod reasons;
 
 pub const LONGEST_LINE: usize = 80;
 
-const LARGEST_NUMBER: u64 = 4294967295;
-
-const LARGEST_TICKET: u64 = 18446744073709551615;
-
 const MOST_NUMBERS: usize = 4;
 
-// The largest that each number of a line may be: where all are numbers, and where the fourth is a ticket.
-const NUMBERS: [u64; MOST_NUMBERS] = [LARGEST_NUMBER; MOST_NUMBERS];
+// The largest that a number of a line may be, and the largest that a ticket may be.
+const LARGEST_NUMBER: u64 = u32::MAX as u64;
 
-const TICKET_FOURTH: [u64; MOST_NUMBERS] = [
+const LARGEST_TICKET: u64 = u64::MAX;
+
+// What p takes: a ticket is its fourth number.
+const WITH_TICKET: [u64; MOST_NUMBERS] = [
     LARGEST_NUMBER,
     LARGEST_NUMBER,
     LARGEST_NUMBER,
     LARGEST_TICKET,
 ];
 
-// Reads a line: a letter, then decimal numbers, one space before each.
-pub fn read(line: &[u8]) -> Line
+// Reads a line: a letter, then decimal numbers, one space before each. What is no such line is no call.
+pub fn read(line: &[u8]) -> Option<Call>
     ensures { result ≡ read_line line.now }
 {
-    if line.len() == 0 {
-        return Line::Unreadable;
-    }
     if line.len() > LONGEST_LINE {
-        return Line::Unreadable;
+        return None;
     }
-    let letter = line[0];
-    with_numbers(line, letter, limits_of(letter))
+    let mut fields = line.split(|byte| *byte == b' ');
+    let [letter] = fields.next()? else {
+        return None;
+    };
+    let mut numbers = [0u64; MOST_NUMBERS];
+    for (place, largest) in largest_of(*letter).iter().enumerate() {
+        let field = fields.next()?;
+        numbers[place] = number_of(field, *largest)?;
+    }
+    if fields.next().is_some() {
+        return None;
+    }
+    called(*letter, numbers)
 }
 
-// The numbers that follow a letter. A byte that is no letter has none.
+// The largest that each number behind a letter may be. Behind w, W and a byte that is no letter stands none.
 #[tactic(auto, unfolding(crate::specs::Lines::form_among))]
-fn limits_of(letter: u8) -> Limits
-    ensures { (limits_from result.0 result.1 ≡ (form_of letter).limits) × WithinLine result.0 result.1 }
+fn largest_of(letter: u8) -> &'static [u64]
+    ensures { (limits_from result.now ≡ (form_of letter).limits) × WithinLine result.now }
 {
     match letter {
-        b'c' => Limits(1, NUMBERS),
-        b'n' => Limits(2, NUMBERS),
-        b'i' => Limits(2, NUMBERS),
-        b'o' => Limits(2, NUMBERS),
-        b'd' => Limits(2, NUMBERS),
-        b'e' => Limits(1, NUMBERS),
-        b's' => Limits(2, NUMBERS),
-        b'p' => Limits(4, TICKET_FOURTH),
-        b'g' => Limits(2, NUMBERS),
-        b'G' => Limits(2, NUMBERS),
-        b'x' => Limits(3, NUMBERS),
-        b'f' => Limits(3, NUMBERS),
-        b'u' => Limits(3, NUMBERS),
-        b'w' => Limits(0, NUMBERS),
-        b'W' => Limits(0, NUMBERS),
-        _ => Limits(0, NUMBERS),
+        b'c' | b'e' => &[LARGEST_NUMBER],
+        b'n' | b'i' | b'o' | b'd' | b's' | b'g' | b'G' => &[LARGEST_NUMBER; 2],
+        b'x' | b'f' | b'u' => &[LARGEST_NUMBER; 3],
+        b'p' => &WITH_TICKET,
+        _ => &[],
     }
 }
 
-// What a letter says with the numbers behind it, which are read from left to right.
-fn with_numbers(line: &[u8], letter: u8, limits: Limits) -> Line
-    requires { WithinLine limits.0 limits.1 }
-    ensures { result ≡ line_with (form_of letter) (numbers_in (limits_from limits.0 limits.1) (drop 1 line.now)) }
+// The number that a field is. A number too large is given up at the digit that makes it so: the value stays at most the largest, however
+// many zeros or digits there are. It is read digit by digit, since the library's parse takes a sign too.
+fn number_of(field: &[u8], largest: u64) -> Option<u64>
+    ensures { result ≡ number_below (largest + 1) field.now }
 {
-    let count = limits.0;
-    let largest = limits.1;
-    let mut numbers = [0u64; MOST_NUMBERS];
-    let mut at = 1;
-    let mut i = 0;
-    while i < count {
-        if line.len() <= at {
-            return Line::Unreadable;
-        }
-        if line[at] != b' ' {
-            return Line::Unreadable;
-        }
-        let Field::Value(number, end) = number_at(line, at + 1, largest[i]) else {
-            return Line::Unreadable;
-        };
-        numbers[i] = number;
-        at = end;
-        i += 1;
+    if field.is_empty() {
+        return None;
     }
-    if at < line.len() {
-        return Line::Unreadable;
-    }
-    called(letter, numbers)
-}
-
-// The number that fills the line from a place to the next space or to the end. A number too large is given up at the
-// digit that makes it so: the value stays at most the largest, however many zeros or digits there are.
-fn number_at(line: &[u8], from: usize, largest: u64) -> Field
-    ensures { result ≡ field_at (largest + 1) line.now from }
-{
     let mut value: u64 = 0;
-    let mut at = from;
-    while at < line.len() {
-        let byte = line[at];
-        match byte {
-            b'0'..=b'9' => {
-                let digit = (byte - b'0') as u64;
-                if value > largest / 10 {
-                    return Field::Other;
-                }
-                if digit > largest - value * 10 {
-                    return Field::Other;
-                }
-                value = value * 10 + digit;
-            }
-            b' ' => break,
-            _ => return Field::Other,
+    for byte in field {
+        let b'0'..=b'9' = *byte else {
+            return None;
+        };
+        let digit = u64::from(*byte - b'0');
+        if value > largest / 10 {
+            return None;
         }
-        at += 1;
+        if digit > largest - value * 10 {
+            return None;
+        }
+        value = value * 10 + digit;
     }
-    if at == from {
-        return Field::Other;
-    }
-    Field::Value(value, at)
+    Some(value)
 }
 
 // The call of a letter with its numbers.
 #[tactic(auto, unfolding(crate::specs::Lines::form_among))]
-fn called(letter: u8, numbers: [u64; MOST_NUMBERS]) -> Line
+fn called(letter: u8, numbers: [u64; MOST_NUMBERS]) -> Option<Call>
     requires { FirstThreeNumbers numbers }
     ensures { result ≡ (form_of letter).line (λ place. get_or numbers place 0) }
 {
-    let first = numbers[0] as u32;
-    let second = numbers[1] as u32;
-    let third = numbers[2] as u32;
-    let fourth = numbers[3];
+    let [first, second, third, fourth] = numbers;
+    let first = first as u32;
+    let second = second as u32;
+    let third = third as u32;
     match letter {
-        b'c' => Line::Makes(Call::By(first, Deed::Channel)),
-        b'n' => Line::Makes(Call::By(first, Deed::NewThread(second))),
-        b'i' => Line::Makes(Call::By(first, Deed::AttachInput(second))),
-        b'o' => Line::Makes(Call::By(first, Deed::AttachOutput(second))),
-        b'd' => Line::Makes(Call::By(first, Deed::Detach(second))),
-        b'e' => Line::Makes(Call::By(first, Deed::End)),
-        b's' => Line::Makes(Call::By(first, Deed::Set(second))),
-        b'p' => Line::Makes(Call::By(first, Deed::Put(second, third, fourth))),
-        b'g' => Line::Makes(Call::By(first, Deed::Get(second, Which::Earliest))),
-        b'G' => Line::Makes(Call::By(first, Deed::Get(second, Which::Latest))),
-        b'x' => Line::Makes(Call::By(first, Deed::Get(second, Which::Named(third)))),
-        b'f' => Line::Makes(Call::By(first, Deed::Consume(second, third))),
-        b'u' => Line::Makes(Call::By(first, Deed::ConsumeUntil(second, third))),
-        b'w' => Line::Makes(Call::Sweep(Bound::Weak)),
-        b'W' => Line::Makes(Call::Sweep(Bound::Strong)),
-        _ => Line::Unreadable,
+        b'c' => Some(Call::By(first, Deed::Channel)),
+        b'n' => Some(Call::By(first, Deed::NewThread(second))),
+        b'i' => Some(Call::By(first, Deed::AttachInput(second))),
+        b'o' => Some(Call::By(first, Deed::AttachOutput(second))),
+        b'd' => Some(Call::By(first, Deed::Detach(second))),
+        b'e' => Some(Call::By(first, Deed::End)),
+        b's' => Some(Call::By(first, Deed::Set(second))),
+        b'p' => Some(Call::By(first, Deed::Put(second, third, fourth))),
+        b'g' => Some(Call::By(first, Deed::Get(second, Which::Earliest))),
+        b'G' => Some(Call::By(first, Deed::Get(second, Which::Latest))),
+        b'x' => Some(Call::By(first, Deed::Get(second, Which::Named(third)))),
+        b'f' => Some(Call::By(first, Deed::Consume(second, third))),
+        b'u' => Some(Call::By(first, Deed::ConsumeUntil(second, third))),
+        b'w' => Some(Call::Sweep(Bound::Weak)),
+        b'W' => Some(Call::Sweep(Bound::Strong)),
+        _ => None,
     }
 }

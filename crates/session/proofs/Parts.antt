@@ -9,8 +9,8 @@ use borrow.Author.Tests.{lt-ltb, ltb-true, ltb-false, leb-true, leb-false, lt-le
 use lib.Dec.{eqb, leb, ltb}
 use lib.ListN.{length, set, take, length-append, length-take, length-set}
 use lib.Seq.{take_all, take-append-le, take-suc-set, append_snoc}
-use Rattle.lines.specs.declared.Line.{Line}
-use Rattle.lines.specs.declared.Line.TheVariants.{Makes, Unreadable}
+use Rattle.std.specs.Prelude.{Option, Some, None}
+use Rattle.calls.specs.declared.Call.{Call}
 use Rattle.lines.specs.Faults.{fault_of}
 use Rattle.lines.specs.Lines.{longest_line, read_line}
 use Rattle.text.specs.Text.{newline}
@@ -51,9 +51,9 @@ pub noted_front : (n : Notes) (line : List ℕ) → noted n (take line_kept line
 unfolding noted_by
 noted_front n line = rw (read_front line) (by_said (read_line line))
   where
-    by_said : (said : Line) → noted_by n said (take line_kept line) ≡ noted_by n said line
-    by_said (Makes call) = refl
-    by_said Unreadable = rw (fault_front line)
+    by_said : (said : Option Call) → noted_by n said (take line_kept line) ≡ noted_by n said line
+    by_said (Some call) = refl
+    by_said None = rw (fault_front line)
 
 -- ---- the lines of an input that begins with a line without newlines
 
@@ -89,7 +89,7 @@ pub record Amid (r : Reader) (line : List ℕ) : Type 0 where
   pub places : length r.line ≡ line_kept
 
 pub amid_turn : (r : Reader) (line : List ℕ) → Amid r line → turn r.desk (line_so_far r) ≡ turn r.desk line
-amid_turn r line amid = ap (λ (said : Line). turn_by r.desk said) (ap read_line amid.front ∙ read_front line)
+amid_turn r line amid = ap (λ (said : Option Call). turn_by r.desk said) (ap read_line amid.front ∙ read_front line)
 
 pub at-start : Amid start []
 unfolding start

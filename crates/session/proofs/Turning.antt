@@ -11,17 +11,16 @@ use Rattle.words.proofs.Laws.{count_le}
 use Rattle.rows.specs.declared.Told.{Told}
 use Rattle.rows.specs.Answers.{answer, Check, passes, decided}
 use Rattle.rows.proofs.Laws.{bool_cases}
-use Rattle.rows.proofs.Checks.{coded, passed, pass_decided, in_turn_lem, turned_zero}
+use Rattle.rows.proofs.Checks.{coded, decided_zero, passed, pass_decided}
 use Rattle.desk.specs.declared.Desk.{Desk}
 use Rattle.desk.specs.declared.Next.{Next}
+use Rattle.std.specs.Prelude.{Option, Some, None}
 use Rattle.calls.specs.declared.Bound.{Bound}
 use Rattle.calls.specs.declared.Deed.{Deed}
 use Rattle.calls.specs.declared.Call as InCode
 use Rattle.calls.specs.declared.Call.TheVariants.{By, Sweep}
 use Rattle.calls.specs.Calls.{by, sweep}
 use Rattle.desk.specs.Calls.{checks, told, outcome, step, slice_after}
-use Rattle.lines.specs.declared.Line.{Line}
-use Rattle.lines.specs.declared.Line.TheVariants.{Makes, Unreadable}
 use Rattle.lines.specs.Lines.{read_line}
 use Rattle.text.specs.Text.{has_room, answer_room, most_tickets, written}
 use Rattle.text.proofs.Room.{room}
@@ -35,7 +34,7 @@ accepted_few : (checks : List Check) (told : Told) → coded checks ≡ true →
 accepted_few checks told codes few =
     bool_cases (passes checks)
     (λ all. rw (pass_decided checks told (passed checks all)) few)
-    (λ some. rw (sym (in_turn_lem checks told codes), turned_zero checks codes, some) zero-le)
+    (λ some. rw (decided_zero checks told codes, some) zero-le)
 
 -- a word has 64 places
 count_few : (w : ℕ) → count w ≤ most_tickets
@@ -54,14 +53,14 @@ abbrev turned : Next → ℕ → List ℕ → Turn
 turned next number slice = record { answer = next.answer; tickets = take number slice; desk = next.desk }
 
 -- what a line leaves is its turn, and the slice has the places and the tickets that are printed
-pub record Ran (d : Desk) (line : Line) (next : Next) (left : List ℕ) (number : ℕ) : Type 0 where
+pub record Ran (d : Desk) (line : Option InCode.Call) (next : Next) (left : List ℕ) (number : ℕ) : Type 0 where
   pub turns : turn_by d line ≡ turned next number left
   pub few : number ≤ most_tickets
   pub long : length left ≡ most_tickets
 
 -- a deed prints no ticket and leaves the slice
-pub deed_ran : {d : Desk} {line : Line} {call : InCode.Call} {thread : ℕ} {made deed : Deed} {next : Next} {left : List ℕ} {number : ℕ}
-    → line ≡ Makes call
+pub deed_ran : {d : Desk} {line : Option InCode.Call} {call : InCode.Call} {thread : ℕ} {made deed : Deed} {next : Next} {left : List ℕ} {number : ℕ}
+    → line ≡ Some call
     → call ≡ By thread made
     → made ≡ deed
     → next ≡ step d (by thread deed)
@@ -82,8 +81,8 @@ taken true number slice = refl
 taken false number slice = refl
 
 -- a sweep hands its tickets back in the slice
-pub sweep_ran : {d : Desk} {line : Line} {call : InCode.Call} {bound : Bound} {swept next : Next} {tickets left : List ℕ} {number : ℕ}
-    → line ≡ Makes call
+pub sweep_ran : {d : Desk} {line : Option InCode.Call} {call : InCode.Call} {bound : Bound} {swept next : Next} {tickets left : List ℕ} {number : ℕ}
+    → line ≡ Some call
     → call ≡ Sweep bound
     → (swept ≡ step d (sweep bound slice)) × (tickets ≡ slice_after d (sweep bound slice))
     → length tickets ≡ most_tickets
@@ -99,8 +98,8 @@ sweep_ran {d} {bound} makes sweeps steps long next left number = record {
 }
 
 -- a line that is not readable changes nothing
-pub unreadable_ran : {d : Desk} {line : Line} {next : Next} {left : List ℕ} {number : ℕ}
-    → line ≡ Unreadable
+pub unreadable_ran : {d : Desk} {line : Option InCode.Call} {next : Next} {left : List ℕ} {number : ℕ}
+    → line ≡ None
     → next ≡ record { answer = answer unreadable 0 0; desk = d }
     → left ≡ slice
     → number ≡ 0
@@ -112,7 +111,7 @@ unreadable_ran is stays left none = record { turns = rw (is, none, stays); few =
 
 -- from what reading it, running its call and writing its answer promise, with the room for an answer:
 -- the next desk, the place behind the answer and the bytes of out are those of its turn
-pub turn-written : (d : Desk) (line : List ℕ) (said : Line) (next : Next) (left : List ℕ) (number : ℕ) (out : List ℕ) (at : ℕ) (after : List ℕ) (end : ℕ)
+pub turn-written : (d : Desk) (line : List ℕ) (said : Option InCode.Call) (next : Next) (left : List ℕ) (number : ℕ) (out : List ℕ) (at : ℕ) (after : List ℕ) (end : ℕ)
     → said ≡ read_line line
     → Ran d said next left number
     → at + answer_room ≤ length out

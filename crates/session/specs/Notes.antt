@@ -1,10 +1,11 @@
 -- What a session can tell at its end of the lines answered 99, for the person who wrote them. Document 01 says nothing of it, and the session's
 -- answers do not depend on it. Assumes nothing.
-use Rattle.std.specs.Prelude.{cond, List, [], ◌∷◌, ℕ, ◌+◌, min, eqb}
-use Rattle.lines.specs.declared.Line.{Line}
-use Rattle.lines.specs.declared.Line.TheVariants.{Makes, Unreadable}
+use Rattle.std.specs.Prelude.{cond, List, [], ◌∷◌, ℕ, ◌+◌, min, eqb, Option, Some, None}
+use Rattle.calls.specs.declared.Call.{Call}
+use Rattle.lines.specs.declared.reasons.Fault.{Fault}
 use Rattle.lines.specs.Faults.{fault_of}
 use Rattle.lines.specs.Lines.{read_line}
+use Rattle.session.specs.declared.FirstUnreadable.{FirstUnreadable}
 use Rattle.session.specs.declared.Notes.{Notes}
 
 -- a count of 64 bits, with some more: it stays at the largest
@@ -14,20 +15,24 @@ largest_count = 18446744073709551615
 abbrev pub counted_to : ℕ → ℕ → ℕ
 counted_to count more = min (count + more) largest_count
 
--- how many lines, how many of them unreadable, and of the first of these its number, from 1, and why it is unreadable
-abbrev pub notes : ℕ → ℕ → ℕ → ℕ → Notes
-notes lines unreadable first fault = record { lines = lines; unreadable = unreadable; first = first; fault = fault }
+-- the first unreadable line: its number, from 1, and why it is unreadable
+abbrev pub first_unreadable : ℕ → Fault → FirstUnreadable
+first_unreadable number fault = record { number = number; fault = fault }
+
+-- how many lines, how many of them unreadable, and the first of these
+abbrev pub notes : ℕ → ℕ → Option FirstUnreadable → Notes
+notes lines unreadable first = record { lines = lines; unreadable = unreadable; first = first }
 
 abbrev pub none_yet : Notes
-none_yet = notes 0 0 0 0
+none_yet = notes 0 0 None
 
 -- with one line more
-unfoldable pub noted_by : Notes → Line → List ℕ → Notes
-noted_by n (Makes call) line = notes (counted_to n.lines 1) n.unreadable n.first n.fault
-noted_by n Unreadable line =
+unfoldable pub noted_by : Notes → Option Call → List ℕ → Notes
+noted_by n (Some call) line = notes (counted_to n.lines 1) n.unreadable n.first
+noted_by n None line =
     cond (eqb n.unreadable 0)
-    (notes (counted_to n.lines 1) 1 (counted_to n.lines 1) (fault_of line))
-    (notes (counted_to n.lines 1) (counted_to n.unreadable 1) n.first n.fault)
+    (notes (counted_to n.lines 1) 1 (Some (first_unreadable (counted_to n.lines 1) (fault_of line))))
+    (notes (counted_to n.lines 1) (counted_to n.unreadable 1) n.first)
 
 abbrev pub noted : Notes → List ℕ → Notes
 noted n line = noted_by n (read_line line) line

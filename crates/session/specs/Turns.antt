@@ -1,13 +1,12 @@
 -- Document 01, "The session program": what one line does to the desk, and what is printed for it. Assumes nothing.
-use Rattle.std.specs.Prelude.{cond, List, [], ℕ, eqb, replicate, take}
+use Rattle.std.specs.Prelude.{cond, List, [], ℕ, eqb, replicate, take, Option, Some, None}
 use Rattle.rows.specs.declared.Answer.{Answer}
 use Rattle.calls.specs.declared.Call.TheVariants.{By, Sweep}
+use Rattle.calls.specs.declared.Call as InCode
 use Rattle.calls.specs.Calls.{Call, by, sweep}
 use Rattle.rows.specs.Answers.{answer}
 use Rattle.desk.specs.declared.Desk.{Desk}
 use Rattle.desk.specs.Calls.{step, slice_after}
-use Rattle.lines.specs.declared.Line.{Line}
-use Rattle.lines.specs.declared.Line.TheVariants.{Makes, Unreadable}
 use Rattle.lines.specs.Lines.{read_line}
 use Rattle.text.specs.Text.{answer_text, most_tickets}
 
@@ -35,10 +34,10 @@ abbrev pub unreadable : ℕ
 unreadable = 99
 
 -- a readable line is its call; "every other line .. answers `99 0 0` and changes nothing"
-unfoldable pub turn_by : Desk → Line → Turn
-turn_by d (Makes (By thread deed)) = calling d (by thread deed) []
-turn_by d (Makes (Sweep bound)) = sweeping d (sweep bound slice)
-turn_by d Unreadable = record { answer = answer unreadable 0 0; tickets = []; desk = d }
+unfoldable pub turn_by : Desk → Option InCode.Call → Turn
+turn_by d (Some (By thread deed)) = calling d (by thread deed) []
+turn_by d (Some (Sweep bound)) = sweeping d (sweep bound slice)
+turn_by d None = record { answer = answer unreadable 0 0; tickets = []; desk = d }
 
 -- the turn of "a line", from its bytes
 abbrev pub turn : Desk → List ℕ → Turn

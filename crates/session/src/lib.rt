@@ -3,14 +3,14 @@
 
 mod noting;
 
-ghost use Rattle.std.specs.Prelude.{◌≡◌, ◌++◌, min, drop, length, take};
+ghost use Rattle.std.specs.Prelude.{◌≡◌, ◌++◌, drop, length, take};
 ghost use Rattle.session.specs.Tickets.{swept_count};
-ghost use Rattle.session.specs.Stream.{line_kept, notes_at_end, printed_for, reader_after, start, used_of, written_at_end};
+ghost use Rattle.session.specs.Stream.{notes_at_end, printed_for, reader_after, start, used_of, written_at_end};
 
 use calls::{Call, Deed};
 use desk::{Desk, Next};
-use lines::{LONGEST_LINE, Line};
-pub use noting::{counted, noted};
+use lines::{Fault, LONGEST_LINE};
+pub use noting::counted;
 use rows::Answer;
 use text::{ANSWER_ROOM, MOST_TICKETS};
 
@@ -20,16 +20,23 @@ const UNREADABLE: u32 = 99;
 // A line with one byte more than the longest is overlong, so no more of a line is kept.
 const LINE_KEPT: usize = LONGEST_LINE + 1;
 
-// How many lines there were, how many of them were not readable, and of the first of these its number, from 1, and why it is not.
+// The first line that was not readable: its number, from 1, and why it is not.
+#[derive(Clone, Copy)]
+pub struct FirstUnreadable {
+    pub number: u64,
+    pub fault: Fault,
+}
+
+// How many lines there were, how many of them were not readable, and the first of these, if there is one.
 #[derive(Clone, Copy)]
 pub struct Notes {
     pub lines: u64,
     pub unreadable: u64,
-    pub first: u64,
-    pub fault: u32,
+    pub first: Option<FirstUnreadable>,
 }
 
-// The desk, what was read of a line that has not ended, and what was noted of the lines that have.
+// The desk, what was read of a line that has not ended, and what was noted of the lines that have. A session has no heap, and `feed` answers
+// every reader, also one that says that it holds more than a line keeps: so how many bytes are held stands beside them.
 #[derive(Clone, Copy)]
 pub struct Reader {
     pub desk: Desk,
@@ -60,14 +67,8 @@ fn swept_count(answer: Answer) -> u64
     if answer.code == 0 { answer.value } else { 0 }
 }
 
-// How many bytes of the line are there: a reader may say that it holds more than a line keeps.
-fn kept(held: usize) -> usize
-    ensures { result ≡ min held line_kept }
-{
-    if held < LINE_KEPT { held } else { LINE_KEPT }
-}
-
 // The start of a session.
+#[tactic(auto, unfolding(crate::specs::Stream::start))]
 pub fn started() -> Reader
     ensures { result ≡ start }
 {
@@ -78,8 +79,7 @@ pub fn started() -> Reader
         notes: Notes {
             lines: 0,
             unreadable: 0,
-            first: 0,
-            fault: 0,
+            first: None,
         },
     }
 }
@@ -110,61 +110,57 @@ pub fn feed(reader: Reader, part: &[u8], out: &mut [u8]) -> Fed
     let mut held = reader.held;
     let mut notes = reader.notes;
     let mut at = 0;
-    let mut i = 0;
-    while i < part.len() {
-        let byte = part[i];
-        if byte != b'\n' {
-            i += 1;
+    let mut used = part.len();
+    for (place, byte) in part.iter().enumerate() {
+        if *byte != b'\n' {
             if held < LINE_KEPT {
-                line[held] = byte;
+                line[held] = *byte;
                 held += 1;
             }
-        } else {
-            if out.len() - at < ANSWER_ROOM {
-                break;
-            }
-            i += 1;
-            let mut slice = [0u64; MOST_TICKETS];
-            let kept = kept(held);
-            let said = lines::read(&line[..kept]);
-            notes = noted(notes, said, &line[..kept]);
-            let mut count = 0;
-            let desk = next.desk;
-            match said {
-                Line::Makes(call) => match call {
-                    Call::By(thread, deed) => match deed {
-                        Deed::Channel => next = desk.channel(thread),
-                        Deed::NewThread(time) => next = desk.new_thread(thread, time),
-                        Deed::AttachInput(channel) => next = desk.attach_input(thread, channel),
-                        Deed::AttachOutput(channel) => next = desk.attach_output(thread, channel),
-                        Deed::Detach(connection) => next = desk.detach(thread, connection),
-                        Deed::End => next = desk.end(thread),
-                        Deed::Set(time) => next = desk.set(thread, time),
-                        Deed::Put(connection, timestamp, ticket) => {
-                            next = desk.put(thread, connection, timestamp, ticket);
-                        }
-                        Deed::Get(connection, which) => next = desk.get(thread, connection, which),
-                        Deed::Consume(connection, timestamp) => {
-                            next = desk.consume(thread, connection, timestamp);
-                        }
-                        Deed::ConsumeUntil(connection, timestamp) => {
-                            next = desk.consume_until(thread, connection, timestamp);
-                        }
-                    },
-                    Call::Sweep(bound) => {
-                        next = desk.sweep(bound, &mut slice);
-                        let answer = next.answer;
-                        count = swept_count(answer) as usize;
-                    }
-                },
-                Line::Unreadable => next = Next {
-                    answer: unreadable,
-                    desk,
-                },
-            }
-            at = text::write_answer(out, at, next.answer, &slice, count);
-            held = 0;
+            continue;
         }
+        if out.len() - at < ANSWER_ROOM {
+            used = place;
+            break;
+        }
+        let mut slice = [0u64; MOST_TICKETS];
+        let kept = held.min(LINE_KEPT);
+        let said = lines::read(&line[..kept]);
+        notes = notes.noted(said, &line[..kept]);
+        let mut count = 0;
+        let desk = next.desk;
+        match said {
+            Some(Call::By(thread, deed)) => match deed {
+                Deed::Channel => next = desk.channel(thread),
+                Deed::NewThread(time) => next = desk.new_thread(thread, time),
+                Deed::AttachInput(channel) => next = desk.attach_input(thread, channel),
+                Deed::AttachOutput(channel) => next = desk.attach_output(thread, channel),
+                Deed::Detach(connection) => next = desk.detach(thread, connection),
+                Deed::End => next = desk.end(thread),
+                Deed::Set(time) => next = desk.set(thread, time),
+                Deed::Put(connection, timestamp, ticket) => {
+                    next = desk.put(thread, connection, timestamp, ticket);
+                }
+                Deed::Get(connection, which) => next = desk.get(thread, connection, which),
+                Deed::Consume(connection, timestamp) => {
+                    next = desk.consume(thread, connection, timestamp);
+                }
+                Deed::ConsumeUntil(connection, timestamp) => {
+                    next = desk.consume_until(thread, connection, timestamp);
+                }
+            },
+            Some(Call::Sweep(bound)) => {
+                next = desk.sweep(bound, &mut slice);
+                let answer = next.answer;
+                count = swept_count(answer) as usize;
+            }
+            None => next = Next {
+                answer: unreadable,
+                desk,
+            },
+        }
+        at = text::write_answer(out, at, next.answer, &slice, count);
+        held = 0;
     }
     let desk = next.desk;
     Fed {
@@ -174,7 +170,7 @@ pub fn feed(reader: Reader, part: &[u8], out: &mut [u8]) -> Fed
             held,
             notes,
         },
-        used: i,
+        used,
         written: at,
     }
 }

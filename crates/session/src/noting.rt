@@ -1,55 +1,38 @@
 // What a session can tell at its end of the lines that were answered 99.
 ghost use Rattle.std.specs.Prelude.{◌≡◌};
-ghost use Rattle.lines.specs.declared.Line.TheVariants.{Unreadable};
 ghost use Rattle.session.specs.Notes.{counted_to, noted_by};
 
-use crate::Notes;
-use lines::Line;
+use crate::{FirstUnreadable, Notes};
+use calls::Call;
 
 // A count with some more. It stays at the largest number: no session comes there, and none is stopped by it.
 pub fn counted(count: u64, more: usize) -> u64
     ensures { result ≡ counted_to count more }
 {
-    if more as u64 > u64::MAX - count {
-        u64::MAX
-    } else {
-        count + more as u64
-    }
+    count.saturating_add(more as u64)
 }
 
-// The notes with one line more, of which is known what it says.
-pub fn noted(notes: Notes, said: Line, line: &[u8]) -> Notes
-    ensures { result ≡ noted_by notes said line.now }
-{
-    match said {
-        Line::Makes(_call) => Notes {
-            lines: counted(notes.lines, 1),
-            unreadable: notes.unreadable,
-            first: notes.first,
-            fault: notes.fault,
-        },
-        Line::Unreadable => unreadable(notes, line),
-    }
-}
-
-// The notes with one line more, which is not readable.
-fn unreadable(notes: Notes, line: &[u8]) -> Notes
-    ensures { result ≡ noted_by notes Unreadable line.now }
-{
-    let number = counted(notes.lines, 1);
-    if notes.unreadable == 0 {
-        Notes {
-            lines: number,
-            unreadable: 1,
-            first: number,
-            fault: lines::faults::fault(line),
+impl Notes {
+    // The notes with one line more, of which is known what it says.
+    pub fn noted(self, said: Option<Call>, line: &[u8]) -> Notes
+        ensures { result ≡ noted_by self said line.now }
+    {
+        let lines = counted(self.lines, 1);
+        if said.is_some() {
+            return Notes { lines, ..self };
         }
-    } else {
+        let first = if self.unreadable == 0 {
+            Some(FirstUnreadable {
+                number: lines,
+                fault: lines::faults::fault(line),
+            })
+        } else {
+            self.first
+        };
         Notes {
-            lines: number,
-            unreadable: counted(notes.unreadable, 1),
-            first: notes.first,
-            fault: notes.fault,
+            lines,
+            unreadable: counted(self.unreadable, 1),
+            first,
         }
     }
 }

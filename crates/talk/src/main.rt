@@ -270,7 +270,8 @@ fn is_report_wanted<R: Files + Alloc>(rt: &R) -> io::Result<bool> {
     Ok(false)
 }
 
-// A complete end, in one line: why the first unreadable line is not readable, how many are not, how many lines there were, and the number of the first.
+// A complete end, in one line: why the first unreadable line is not readable, how many are not, how many lines there were, and the number of the first;
+// 0 and 0 for the first where every line is readable.
 // std opens anew what descriptor 3 leads to: so where that is for reading alone it is left as it is, and it is opened for both, since a pipe that nobody
 // reads any more would else be waited for.
 fn report<R: Files + Alloc>(rt: &R, notes: Notes) -> io::Result<()> {
@@ -278,10 +279,12 @@ fn report<R: Files + Alloc>(rt: &R, notes: Notes) -> io::Result<()> {
         return Ok(());
     }
     let mut to = OpenOptions::new().read(true).append(true).open(rt, REPORT)?;
-    let fault = notes.fault;
+    let (fault, first) = match notes.first {
+        Some(first) => (u32::from(first.fault), first.number),
+        None => (0, 0),
+    };
     let unreadable = notes.unreadable;
     let lines = notes.lines;
-    let first = notes.first;
     writeln!(to, "{fault} {unreadable} {lines} {first}")
 }
 

@@ -1,25 +1,30 @@
--- Each byte says what the bytes behind it then say, or that there are no numbers. Assumes nothing.
-use Rattle.std.proofs.Common.{sym, ◌∙◌, arith}
-use Rattle.lines.proofs.Reasons.{at-end, empty_field, field_ends, at_digit, below-digits, above_digits, numbers_behind}
+-- The library skips the first of the fields and asks it of each of the others. Assumes nothing.
+use Rattle.std.proofs.Common.{◌≡◌, rules, tests, eqb, not, ◌&&◌, drop, Bool, List, [], ◌∷◌, ℕ, refl, ap, ◌∙◌}
+use Rattle.std.proofs.lemmas.Iterator.Adapters.{YieldsList-from_skip}
+use Rattle.std.proofs.lemmas.Iterator.Consumers.{YieldsList-at}
+use Rattle.std.proofs.lemmas.Iterator.Search.{all_from_yields_List}
+use Rattle.std.proofs.lemmas.Iterator.Splits.{YieldsList-from_slice_split}
+use mathlib.Core.Bool.{and_assoc}
+use Rattle.std.specs.List.{list_all}
+use Rattle.lines.specs.Lines.{space, fields_of, is_empty, all_digits}
+use Rattle.lines.specs.Faults.{all_numbers}
+use Rattle.lines.proofs.Fields.{fields_split}
 use Rattle.lines.proofs.faults.all_numbers.Goals as goal
 
-pub loop-at-init : goal.loop-at-init
-loop-at-init c = numbers_behind _ c.requires
-
-pub returns-then-not-filled : goal.returns-then-not-filled
-returns-then-not-filled c = sym (empty_field _ _ _ c.loop-at-test.true c.in-32.is c.if-not-filled.true) ∙ c.loop-at.invariant
-
-pub loop-at-preserved-in-32 : goal.loop-at-preserved-in-32
-loop-at-preserved-in-32 c = sym (field_ends _ _ _ c.loop-at-test.true c.in-32.is c.if-not-filled.false) ∙ c.loop-at.invariant
-
-pub loop-at-preserved : goal.loop-at-preserved
-loop-at-preserved c = sym (at_digit _ _ _ c.loop-at-test.true (omega arith) (omega arith)) ∙ c.loop-at.invariant
-
-pub returns-in_default : goal.returns-in_default
-returns-in_default c = sym (below-digits _ _ _ c.loop-at-test.true (omega arith) (omega arith)) ∙ c.loop-at.invariant
-
-pub returns-in_default-2 : goal.returns-in_default-2
-returns-in_default-2 c = sym (above_digits _ _ _ c.loop-at-test.true (omega arith)) ∙ c.loop-at.invariant
+numbers_alike : (fields : List (List ℕ)) → list_all (λ field. not (is_empty field) && all_digits field) fields ≡ all_numbers fields
+unfolding all_numbers
+numbers_alike [] = refl
+numbers_alike (field ∷ fields) =
+    ap (λ (others : Bool). (not (is_empty field) && all_digits field) && others) (numbers_alike fields)
+    ∙ and_assoc (not (is_empty field)) (all_digits field) (all_numbers fields)
 
 pub returns : goal.returns
-returns c = sym (at-end _ _ _ c.loop-at-test.false) ∙ c.loop-at.invariant
+returns c =
+    all_from_yields_List (λ field. not (is_empty field) && all_digits field) _ _ _ c.all.ensures.ran
+    (YieldsList-from_skip 1
+    (YieldsList-at c.skip.ensures.source
+    (YieldsList-from_slice_split _ (λ byte. eqb byte space) c.args.line.now c.split.ensures.rest c.split.ensures.done c.split.ensures.closure (λ x b q k. search (rules, tests))))
+    c.skip.ensures.count)
+    (λ x b q k. search (rules, tests))
+    ∙ ap (λ (fields : List (List ℕ)). list_all (λ field. not (is_empty field) && all_digits field) (drop 1 fields)) (fields_split c.args.line.now)
+    ∙ numbers_alike (drop 1 (fields_of c.args.line.now))
