@@ -1,3 +1,1 @@
 pub mod Lent
-pub mod Gets
-pub mod Sweeps

@@ -4,6 +4,7 @@ ghost use Rattle.calls.specs.Calls.{attach_input, attach_output, detach};
 ghost use Rattle.desk.specs.Calls.{step};
 ghost use Rattle.lent.specs.Lent.{lent_back};
 
+use crate::lend;
 use desk::Desk;
 use rows::Answer;
 
@@ -11,28 +12,19 @@ use rows::Answer;
 pub extern "C" fn desk_attach_input(desk: &mut Desk, thread: u32, channel: u32) -> Answer
     ensures { lent_back result desk.new ≡ step desk.old (attach_input thread channel) }
 {
-    let d = *desk;
-    let next = d.attach_input(thread, channel);
-    *desk = next.desk;
-    next.answer
+    lend(desk, |d| d.attach_input(thread, channel))
 }
 
 #[unsafe(no_mangle)]
 pub extern "C" fn desk_attach_output(desk: &mut Desk, thread: u32, channel: u32) -> Answer
     ensures { lent_back result desk.new ≡ step desk.old (attach_output thread channel) }
 {
-    let d = *desk;
-    let next = d.attach_output(thread, channel);
-    *desk = next.desk;
-    next.answer
+    lend(desk, |d| d.attach_output(thread, channel))
 }
 
 #[unsafe(no_mangle)]
 pub extern "C" fn desk_detach(desk: &mut Desk, thread: u32, connection: u32) -> Answer
     ensures { lent_back result desk.new ≡ step desk.old (detach thread connection) }
 {
-    let d = *desk;
-    let next = d.detach(thread, connection);
-    *desk = next.desk;
-    next.answer
+    lend(desk, |d| d.detach(thread, connection))
 }

@@ -4,8 +4,10 @@
 
 ghost use Rattle.std.specs.Prelude.{◌≡◌};
 ghost use Rattle.desk.specs.Desk.{fresh};
+ghost use Rattle.lent.specs.Lent.{lent_back};
 
-use desk::Desk;
+use desk::{Desk, Next};
+use rows::Answer;
 
 pub mod connections;
 pub mod items;
@@ -19,4 +21,14 @@ pub extern "C" fn desk_fresh() -> Desk
     ensures { result ≡ fresh }
 {
     Desk::fresh()
+}
+
+// Each lent call: the desk is taken out of the reference, the by-value call is made on it, and the next desk is stored back.
+fn lend<F: FnOnce(Desk) -> Next>(desk: &mut Desk, call: F) -> Answer
+    requires { F.pre call desk.old }
+    ensures { F.post call desk.old (lent_back result desk.new) }
+{
+    let next = call(*desk);
+    *desk = next.desk;
+    next.answer
 }

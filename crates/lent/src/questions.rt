@@ -10,38 +10,33 @@ use rows::Answer;
 pub extern "C" fn desk_visible_time(desk: &Desk, thread: u32) -> Answer
     ensures { result ≡ reply desk.now (ask_visible_time thread) }
 {
-    let d = *desk;
-    d.visible_time(thread)
+    desk.visible_time(thread)
 }
 
 #[unsafe(no_mangle)]
 pub extern "C" fn desk_weak_bound(desk: &Desk) -> Answer
     ensures { result ≡ reply desk.now ask_weak_bound }
 {
-    let d = *desk;
-    d.weak_bound()
+    desk.weak_bound()
 }
 
 #[unsafe(no_mangle)]
 pub extern "C" fn desk_strong_bound(desk: &Desk) -> Answer
     ensures { result ≡ reply desk.now ask_strong_bound }
 {
-    let d = *desk;
-    d.strong_bound()
+    desk.strong_bound()
 }
 
 #[unsafe(no_mangle)]
 pub extern "C" fn desk_state(desk: &Desk, connection: u32, timestamp: u32) -> Answer
     ensures { result ≡ reply desk.now (ask_state_of connection timestamp) }
 {
-    let d = *desk;
-    d.state(connection, timestamp)
+    desk.state(connection, timestamp)
 }
 
 #[unsafe(no_mangle)]
 pub extern "C" fn desk_items_present(desk: &Desk) -> Answer
     ensures { result ≡ reply desk.now ask_items_present }
 {
-    let d = *desk;
-    d.items_present()
+    desk.items_present()
 }

@@ -4,6 +4,7 @@ ghost use Rattle.calls.specs.Calls.{new_channel, new_thread, end, set_time};
 ghost use Rattle.desk.specs.Calls.{step};
 ghost use Rattle.lent.specs.Lent.{lent_back};
 
+use crate::lend;
 use desk::Desk;
 use rows::Answer;
 
@@ -11,38 +12,26 @@ use rows::Answer;
 pub extern "C" fn desk_channel(desk: &mut Desk, thread: u32) -> Answer
     ensures { lent_back result desk.new ≡ step desk.old (new_channel thread) }
 {
-    let d = *desk;
-    let next = d.channel(thread);
-    *desk = next.desk;
-    next.answer
+    lend(desk, |d| d.channel(thread))
 }
 
 #[unsafe(no_mangle)]
 pub extern "C" fn desk_new_thread(desk: &mut Desk, thread: u32, time: u32) -> Answer
     ensures { lent_back result desk.new ≡ step desk.old (new_thread thread time) }
 {
-    let d = *desk;
-    let next = d.new_thread(thread, time);
-    *desk = next.desk;
-    next.answer
+    lend(desk, |d| d.new_thread(thread, time))
 }
 
 #[unsafe(no_mangle)]
 pub extern "C" fn desk_end(desk: &mut Desk, thread: u32) -> Answer
     ensures { lent_back result desk.new ≡ step desk.old (end thread) }
 {
-    let d = *desk;
-    let next = d.end(thread);
-    *desk = next.desk;
-    next.answer
+    lend(desk, |d| d.end(thread))
 }
 
 #[unsafe(no_mangle)]
 pub extern "C" fn desk_set(desk: &mut Desk, thread: u32, time: u32) -> Answer
     ensures { lent_back result desk.new ≡ step desk.old (set_time thread time) }
 {
-    let d = *desk;
-    let next = d.set(thread, time);
-    *desk = next.desk;
-    next.answer
+    lend(desk, |d| d.set(thread, time))
 }
