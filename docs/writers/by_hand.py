@@ -50,7 +50,11 @@ def words(crossing):
 
 def letters(crossing):
     """The README has a line for each letter, with as many numbers as the code reads."""
-    read = dict(re.findall(r"b'(\w)' => Limits\((\d), ", text(LINES)))
+    code = text(LINES)
+    most = re.search(r"const MOST_NUMBERS: usize = (\d);", code)
+    read = dict.fromkeys(re.findall(r"b'(\w)' => Some\(Call::", code), "0")
+    for arm, limits, number in re.findall(r"((?:b'\w'[ |]*)+)=> &(\[LARGEST_NUMBER(?:; (\d))?\]|WITH_TICKET)", code):
+        read |= dict.fromkeys(re.findall(r"b'(\w)'", arm), number or (most[1] if limits == "WITH_TICKET" else "1"))
     told = {letter: str(len(numbers)) for letter, *numbers in map(str.split, lines_of("README.md"))}
     if not read:
         yield f"{LINES} has no letters in a form that is read here"
