@@ -1,44 +1,56 @@
 -- By what the read has answered, test for test; a part that came is told, and the session goes on where it was told as whole.
-use Rattle.std.proofs.Common.{◌+◌, ◌≤◌, ◌<◌, ◌≡◌, length, arith, refl, sym, ◌∙◌, inl, inr, true, false}
+use Rattle.std.proofs.Common.{◌+◌, ◌≤◌, ◌<◌, ◌≡◌, length, take, arith, refl, ap, sym, ◌∙◌, inl, inr, min}
+use borrow.Author.Tests.{eq-eqb, le-ltb, lt-ltb, ne_eqb}
+use lib.Seq.{length-take-le}
 use Rattle.std.proofs.lemmas.Result.{err_from_is_err_and}
-use Rattle.talk.specs.Talk.{Hears, clamp_len, is_zero}
 use Rattle.session.specs.Notes.{largest_count}
-use Rattle.talk.proofs.Talk.hear.Goals.{in-Ok-eq0, in_default, in_default-2}
+use Rattle.talk.specs.Talk.{Hears, clamp_len}
+use Rattle.talk.proofs.Telling.{came_is, clamped_le}
 use Rattle.talk.proofs.Talk.hear.Goals as goal
 
-pub returns-then-matches-clause-hears : goal.returns-then-matches-clause-hears
+pub returns-then-is_end-clause-hears : goal.returns-then-is_end-clause-hears
 unfolding Hears
-returns-then-matches-clause-hears g c =
-    let zero : is_zero c.args.got ≡ true = elim c.match-matches.branch [ in-Ok-eq0 w ↦ ? | in_default w ↦ ? | in_default-2 w ↦ ? ] in
-    ?
+returns-then-is_end-clause-hears g c = rw (sym c.is_end.ensures ∙ c.if-is_end.true) (refl, refl)
 
 pub returns-then-count-eq0-clause-hears : goal.returns-then-count-eq0-clause-hears
 unfolding Hears
 returns-then-count-eq0-clause-hears g c =
-    let a = c.unwrap_or.ensures in
-    let b = c.min-count.ensures in
-    ?
+    let came : clamp_len c.args.got (length c.args.input.now) ≡ c.min-count.result = came_is _ _ ∙ sym (rw c.unwrap_or.ensures at c.min-count.ensures) in
+    rw (came, sym c.is_end.ensures ∙ c.if-is_end.false, eq-eqb _ 0 c.if-count-eq0.true) (refl, refl)
 
 pub returns-in_err-self-clause-hears : goal.returns-in_err-self-clause-hears
 unfolding Hears
 returns-in_err-self-clause-hears g c =
     let p = err_from_is_err_and c.from_residual.result c.from_residual.ensures.1 in
-    let a = c.in_err-self.ensures.value in
-    let b = c.in_err-self.ensures.variant in
-    let d = c.in_err-self.ensures.ok_part in
-    let e = c.checked_add-bytes.ensures in
-    ?
+    let came : clamp_len c.args.got (length c.args.input.now) ≡ c.min-count.result = came_is _ _ ∙ sym (rw c.unwrap_or.ensures at c.min-count.ensures) in
+    let why = rw c.in_err-self.ensures.ok_part at c.in_err-self.ensures.value in
+    let over = rw c.in_err-self.ensures.ok_part at c.checked_add-bytes.ensures in
+    let uncounted : largest_count < c.args.self.now.heard.bytes + c.min-count.result = omega (arith, over) in
+    rw (came, sym c.is_end.ensures ∙ c.if-is_end.false, ne_eqb _ 0 c.if-count-eq0.false, lt-ltb largest_count _ uncounted) (cc (p.1, p.2, why), refl)
 
 pub returns-in_err-tell-clause-hears : goal.returns-in_err-tell-clause-hears
 unfolding Hears
 returns-in_err-tell-clause-hears g c =
     let p = err_from_is_err_and c.from_residual-in_err-tell.result c.from_residual-in_err-tell.ensures.1 in
-    let a = c.in_ok-self.ensures.value in
-    let b = c.in_ok-self.ensures.variant in
-    let d = c.in_ok-self.ensures.ok_part in
-    let e = c.in_err-tell.ensures.answers in
-    ?
+    let came : clamp_len c.args.got (length c.args.input.now) ≡ c.min-count.result = came_is _ _ ∙ sym (rw c.unwrap_or.ensures at c.min-count.ensures) in
+    let sum = rw c.in_ok-self.ensures.ok_part at c.checked_add-bytes.ensures in
+    let counted : c.args.self.now.heard.bytes + c.min-count.result ≤ largest_count = omega (arith, sum.0) in
+    let long = length-take-le c.min-count.result c.args.input.now (rw (← came) (clamped_le c.args.got _)) in
+    let told = c.in_err-tell.ensures.answers in
+    rw (came, sym c.is_end.ensures ∙ c.if-is_end.false, ne_eqb _ 0 c.if-count-eq0.false, le-ltb largest_count _ counted) (
+      omega (arith, told.0, sum.1, long),
+      inr (cc (p.1, p.2, told.1), told.2),
+    )
 
 pub returns-clause-hears : goal.returns-clause-hears
 unfolding Hears
-returns-clause-hears g c = ?
+returns-clause-hears g c =
+    let came : clamp_len c.args.got (length c.args.input.now) ≡ c.min-count.result = came_is _ _ ∙ sym (rw c.unwrap_or.ensures at c.min-count.ensures) in
+    let sum = rw c.in_ok-self.ensures.ok_part at c.checked_add-bytes.ensures in
+    let counted : c.args.self.now.heard.bytes + c.min-count.result ≤ largest_count = omega (arith, sum.0) in
+    let long = length-take-le c.min-count.result c.args.input.now (rw (← came) (clamped_le c.args.got _)) in
+    let told = c.in_ok-tell.ensures.answers in
+    rw (came, sym c.is_end.ensures ∙ c.if-is_end.false, ne_eqb _ 0 c.if-count-eq0.false, le-ltb largest_count _ counted) (
+      omega (arith, told.0, sum.1, long),
+      inl (refl, told.1, told.2),
+    )
