@@ -24,7 +24,7 @@ use Rattle.session.proofs.Parts.{notes_of_session, session_at_once}
 use Rattle.talk.specs.declared.Failure.{Failure}
 use Rattle.talk.specs.declared.Failure.TheVariants.{ReadFailed, TooMuch, WriteFailed}
 use Rattle.talk.specs.declared.Heard.{Heard}
-use Rattle.talk.specs.Talk.{ComesTo, Concludes, Cut, HeardWhole, Gave, HeardWriting, Hears, HearsBy, HearsWriting, SpokenWriting, ConcludesWriting, Taken, Wrote, WroteSome, clamp_len, ended, goes_on, is_zero, read_failed, too_much, write_failed}
+use Rattle.talk.specs.Talk.{ComesTo, Concludes, Cut, HeardWhole, Gave, HeardWriting, Hears, HearsBy, HearsWriting, SpokenWriting, ConcludesWriting, Taken, Wrote, WroteSome, clamp_len, ended, goes_on, is_zero, none_heard, read_failed, too_much, write_failed}
 use Rattle.session.proofs.Feeding.{printed-append, reader-append}
 use Rattle.session.proofs.Room.{used_fits, used_some}
 use Rattle.talk.proofs.Writing.{some_kept, some_of, some_on}
@@ -145,9 +145,9 @@ zero_came (Err e) most z = absurd (false≢true z)
 abbrev pub HeardAll : Heard → List ℕ → Type 0
 HeardAll heard all = (length all ≡ heard.bytes) × (heard.reader ≡ reader_after start all) × Taken 0 (printed_for start all) heard.taken
 
-pub none_all : (heard : Heard) → heard.bytes ≡ 0 → heard.reader ≡ start → heard.taken ≡ 0 → HeardAll heard []
+pub none_all : HeardAll none_heard []
 unfolding reader_after printed_for
-none_all heard bytes reader taken = (sym bytes, reader, taken)
+none_all = (refl, refl, refl)
 
 module _ {E : Type 0} (before : Heard) (got : Result ℕ E) (input : List ℕ) (how : Result Bool Failure) (after : Heard) where
   abbrev came : ℕ
@@ -262,6 +262,16 @@ module _ {E : Type 0} (before : Heard) (got : Result ℕ E) (input : List ℕ) (
   unfolding Hears
   more_counted on hears = counts (is_zero got) (eqb came 0) (ltb largest_count (before.bytes + came)) on refl refl hears
 
+-- while the session goes on, so many bytes are left to be counted
+abbrev pub left_to_count : Bool → Heard → ℕ
+left_to_count goes heard = cond goes (suc (largest_count - heard.bytes)) 0
+
+pub less_to_count : {E : Type 0} (before : Heard) (got : Result ℕ E) (input : List ℕ) (goes : Bool) (after : Heard) → Hears before got input (Ok goes) after
+    → left_to_count goes after < left_to_count true before
+less_to_count before got input true after hears =
+    let more = more_counted before got input (Ok true) after refl hears in omega (arith, more.0, more.1)
+less_to_count before got input false after hears = omega arith
+
 -- ---- the end of the input
 
 -- the text of a session is that of its input as it was read, and then that of its end
@@ -290,3 +300,55 @@ module _ (all : List ℕ) (r : Reader) (taken after : ℕ) (reads : r ≡ reader
   -- and what was noted is noted of all its lines
   pub spoken_notes : (notes : Notes) (room : ℕ) → answer_room ≤ room → notes ≡ notes_at_end r room → notes ≡ notes_of none_yet (lines_of all)
   spoken_notes notes room enough noted = noted ∙ rw (le-ltb room answer_room enough) (ap noted_at_end reads ∙ notes_of_session all)
+
+-- a failure is one of whatever was to come
+pub failed_whole : {S T : Type 0} (why : Failure) (heard : Heard) (all : List ℕ) → HeardWhole {T = S} (Err why) heard all → HeardWhole {T = T} (Err why) heard all
+failed_whole why heard all whole = (whole.0, λ e. whole.1 (cc e), λ other. whole.2 (λ e. other (cc e)))
+
+pub failed_writing : {S T : Type 0} (why : Failure) (w₀ w₁ : Option (List ℕ)) (all : List ℕ) → HeardWriting {T = S} (Err why) w₀ w₁ all
+    → HeardWriting {T = T} (Err why) w₀ w₁ all
+failed_writing why w₀ w₁ all wrote = (λ e. wrote.0 (cc e), λ other. wrote.1 (λ e. other (cc e)))
+
+-- what is known of the bytes of the reader and of the writer, at the start, after what was heard, and at the end
+pub spoken_bytes : {S T : Type 0} (heard : Result S Failure) (end : Result T Failure) (all : List ℕ) (h : Heard) (room : ℕ) (r₀ r₁ w₀ w₁ w₂ : Option (List ℕ))
+    → HeardWhole heard h all
+    → Gave room heard r₀ r₁ all
+    → HeardWriting heard w₀ w₁ all
+    → Concludes heard end
+    → ConcludesWriting heard end w₁ w₂ (printed_at_end h.reader)
+    → Gave room end r₀ r₁ all × SpokenWriting end w₀ w₂ all
+spoken_bytes (Ok x) (Ok y) all h room r₀ r₁ w₀ w₁ w₂ whole gave wrote concludes closes =
+    let told = whole.2 (λ e. cc) in
+    let done : Appends w₀ w₁ (printed_for start all) = wrote.1 (λ e. cc) in
+    let text : printed_for start all ++ printed_at_end h.reader ≡ session_text all
+    = ap (λ (s : Reader). printed_for start all ++ printed_at_end s) told.0 ∙ session_at_once all in (
+      (λ counted. gave.0 (λ e. cc), λ some ok. gave.1 some refl),
+      (
+        λ ok. subst (λ (l : List ℕ). Appends w₀ w₂ l) text (Appends-trans w₀ w₁ w₂ _ _ done (closes.0 refl refl)),
+        λ e. absurd (cc),
+        λ e. absurd (false≢true e),
+      ),
+    )
+spoken_bytes (Ok x) (Err why) all h room r₀ r₁ w₀ w₁ w₂ whole gave wrote concludes closes =
+    let told = whole.2 (λ e. cc) in
+    let done : Appends w₀ w₁ (printed_for start all) = wrote.1 (λ e. cc) in
+    let text : printed_for start all ++ printed_at_end h.reader ≡ session_text all
+    = ap (λ (s : Reader). printed_for start all ++ printed_at_end s) told.0 ∙ session_at_once all in (
+      (λ counted. gave.0 (λ e. cc), λ some ok. absurd (false≢true ok)),
+      (
+        λ ok. absurd (false≢true ok),
+        λ failed. subst (λ (l : List ℕ). WroteSome w₀ w₂ l) text (some_on w₀ w₁ w₂ _ _ done (closes.1 refl failed)),
+        λ e other. absurd (⊎_elim false≢true other (concludes.0 refl)),
+      ),
+    )
+spoken_bytes (Err why) (Ok y) all h room r₀ r₁ w₀ w₁ w₂ whole gave wrote concludes closes = absurd (cc (concludes.1))
+spoken_bytes (Err why) (Err e) all h room r₀ r₁ w₀ w₁ w₂ whole gave wrote concludes closes =
+    let nothing : Keeps w₁ w₂ = closes.2 refl in
+    let same : e ≡ why = cc (concludes.1) in (
+      (λ counted. gave.0 (λ much. counted (cc (same, much))), λ some ok. absurd (false≢true ok)),
+      (
+        λ ok. absurd (false≢true ok),
+        λ failed. subst (λ (l : List ℕ). WroteSome w₀ w₂ l) (session_at_once all) (some_of w₀ w₂ _ _ (some_kept w₀ w₁ w₂ _ (wrote.0 (cc (same, failed))) nothing)),
+        λ err other. Appends-kept w₀ w₁ w₂ _ (wrote.1 (λ failed. other (cc (same, failed)))) nothing,
+      ),
+    )

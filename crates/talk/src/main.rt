@@ -151,8 +151,7 @@ impl<'a, C: Clock, R: Read, W: Write> Talk<'a, C, R, W> {
     fn converse(&mut self, input: &mut [u8], out: &mut [u8]) -> Result<(), Failure>
         requires room { answer_room ≤ length out.old }
         requires begins { self.old.heard ≡ none_heard }
-        ensures heard { (all : List ℕ) × HeardWhole result self.new.heard all }
-        ensures bytes { (all : List ℕ) × HeardWhole result self.new.heard all
+        ensures { (all : List ℕ) × HeardWhole result self.new.heard all
             × Gave (length input.old) result (R.remaining self.old.ends.from) (R.remaining self.new.ends.from) all
             × HeardWriting result (W.contents self.old.ends.to) (W.contents self.new.ends.to) all }
     {
@@ -186,8 +185,7 @@ impl<'a, C: Clock, R: Read, W: Write> Talk<'a, C, R, W> {
     fn speak(&mut self, input: &mut [u8], out: &mut [u8]) -> Result<Notes, Failure>
         requires room { answer_room ≤ length out.old }
         requires begins { self.old.heard ≡ none_heard }
-        ensures spoken { (all : List ℕ) × Spoken result self.new.heard all }
-        ensures bytes { (all : List ℕ) × Spoken result self.new.heard all
+        ensures { (all : List ℕ) × Spoken result self.new.heard all
             × Gave (length input.old) result (R.remaining self.old.ends.from) (R.remaining self.new.ends.from) all
             × SpokenWriting result (W.contents self.old.ends.to) (W.contents self.new.ends.to) all }
     {

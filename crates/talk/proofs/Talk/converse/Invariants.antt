@@ -1,10 +1,9 @@
 -- What was read was answered (`HeardAll`), and what a read brings keeps this; while the session goes on, fewer bytes are left to be counted.
 -- Assumes nothing.
-use Rattle.std.proofs.Common.{◌≡◌, List, ℕ, ◌-◌, ◌<◌, cond, false, length, suc}
+use Rattle.std.proofs.Common.{◌≡◌, List, ℕ, ◌<◌, false, length}
 use Rattle.std.specs.Io.KnownBytes.{Appends, Consumes, IsAtEnd}
-use Rattle.session.specs.Notes.{largest_count}
 use Rattle.session.specs.Stream.{printed_for, start}
-use Rattle.talk.proofs.Telling.{HeardAll}
+use Rattle.talk.proofs.Telling.{HeardAll, left_to_count}
 use Rattle.talk.proofs.Talk.converse.Given as goal
 
 abbrev pub invariant-loop-goes_on : goal.invariant-loop-goes_on
@@ -18,4 +17,4 @@ invariant-loop-goes_on g l =
     × Appends (g.W.Write.contents l.fn.self.ends.to) (g.W.Write.contents l.self.ends.to) (printed_for start all))
 
 abbrev pub decreases-loop-goes_on : goal.decreases-loop-goes_on
-decreases-loop-goes_on g l = cond l.goes_on (suc (largest_count - l.self.heard.bytes)) 0
+decreases-loop-goes_on g l = left_to_count l.goes_on l.self.heard
