@@ -38,9 +38,9 @@ pub clamped_le : {E : Type 0} (got : Result ℕ E) (most : ℕ) → clamp_len go
 clamped_le (Ok n) most = omega arith
 clamped_le (Err e) most = omega arith
 
-pub came_is : {E : Type 0} (got : Result ℕ E) (most : ℕ) → clamp_len got most ≡ min (result_unwrap_or got 0) most
-came_is (Ok n) most = refl
-came_is (Err e) most = omega arith
+pub came_is : {E : Type 0} (got : Result ℕ E) (most : ℕ) {count some : ℕ} → some ≡ result_unwrap_or got 0 → count ≡ min some most → clamp_len got most ≡ count
+came_is (Ok n) most is least = sym (least ∙ ap (λ (m : ℕ). min m most) is)
+came_is (Err e) most is least = omega (arith, is, least)
 
 -- some of a part was told: of the reader, and of what is printed, what is left of the part makes what the whole part makes of the first
 pub record Tells (first : Heard) (part : List ℕ) (now : Heard) (rest : List ℕ) (w₀ w : Option (List ℕ)) : Type 0 where

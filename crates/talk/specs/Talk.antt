@@ -26,8 +26,8 @@ IsFinal error = (error_kind error ≢ Interrupted) × (error_kind error ≢ Woul
 abbrev pub none_heard : Heard
 none_heard = record { reader = start; taken = 0; bytes = 0 }
 
--- what a session came to: it goes on, its input has ended, a read has failed, a write has failed, or no number could count the bytes of its input.
--- What has not failed and cannot go on any more has ended
+-- what a session came to: it goes on, its input has ended, a read has failed, a write has failed, or no number could count the bytes of its input. Of a
+-- session that was heard to where it stops, `Ok` says that its input has ended
 abbrev pub goes_on : Result Bool Failure
 goes_on = Ok true
 

@@ -198,12 +198,8 @@ impl<'a, C: Clock, R: Read, W: Write> Talk<'a, C, R, W> {
 // is for reading alone.
 fn is_report_wanted<R: Files + Alloc>(rt: &R) -> io::Result<bool> {
     let about = fs::read_to_string(rt, ABOUT_REPORT)?;
-    for line in about.lines() {
-        if line.starts_with("flags:") {
-            return Ok(!line.ends_with('0') && !line.ends_with('4'));
-        }
-    }
-    Ok(false)
+    let flags = about.lines().find(|line| line.starts_with("flags:"));
+    Ok(flags.is_some_and(|line| !line.ends_with('0') && !line.ends_with('4')))
 }
 
 // A complete end, in one line: why the first unreadable line is not readable, how many are not, how many lines there were, and the number of the first.

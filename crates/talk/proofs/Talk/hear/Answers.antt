@@ -15,14 +15,14 @@ returns-then-is_end-clause-hears g c = rw (sym c.is_end.ensures ∙ c.if-is_end.
 pub returns-then-count-eq0-clause-hears : goal.returns-then-count-eq0-clause-hears
 unfolding Hears
 returns-then-count-eq0-clause-hears g c =
-    let came : clamp_len c.args.got (length c.args.input.now) ≡ c.min-count.result = came_is _ _ ∙ sym (rw c.unwrap_or.ensures at c.min-count.ensures) in
+    let came = came_is c.args.got _ c.unwrap_or.ensures c.min-count.ensures in
     rw (came, sym c.is_end.ensures ∙ c.if-is_end.false, eq-eqb _ 0 c.if-count-eq0.true) (refl, refl)
 
 pub returns-in_err-self-clause-hears : goal.returns-in_err-self-clause-hears
 unfolding Hears
 returns-in_err-self-clause-hears g c =
     let p = err_from_is_err_and c.from_residual.result c.from_residual.ensures.1 in
-    let came : clamp_len c.args.got (length c.args.input.now) ≡ c.min-count.result = came_is _ _ ∙ sym (rw c.unwrap_or.ensures at c.min-count.ensures) in
+    let came = came_is c.args.got _ c.unwrap_or.ensures c.min-count.ensures in
     let why = rw c.in_err-self.ensures.ok_part at c.in_err-self.ensures.value in
     let over = rw c.in_err-self.ensures.ok_part at c.checked_add-bytes.ensures in
     let uncounted : largest_count < c.args.self.now.heard.bytes + c.min-count.result = omega (arith, over) in
@@ -32,7 +32,7 @@ pub returns-in_err-tell-clause-hears : goal.returns-in_err-tell-clause-hears
 unfolding Hears
 returns-in_err-tell-clause-hears g c =
     let p = err_from_is_err_and c.from_residual-in_err-tell.result c.from_residual-in_err-tell.ensures.1 in
-    let came : clamp_len c.args.got (length c.args.input.now) ≡ c.min-count.result = came_is _ _ ∙ sym (rw c.unwrap_or.ensures at c.min-count.ensures) in
+    let came = came_is c.args.got _ c.unwrap_or.ensures c.min-count.ensures in
     let sum = rw c.in_ok-self.ensures.ok_part at c.checked_add-bytes.ensures in
     let counted : c.args.self.now.heard.bytes + c.min-count.result ≤ largest_count = omega (arith, sum.0) in
     let long = length-take-le c.min-count.result c.args.input.now (rw (← came) (clamped_le c.args.got _)) in
@@ -45,7 +45,7 @@ returns-in_err-tell-clause-hears g c =
 pub returns-clause-hears : goal.returns-clause-hears
 unfolding Hears
 returns-clause-hears g c =
-    let came : clamp_len c.args.got (length c.args.input.now) ≡ c.min-count.result = came_is _ _ ∙ sym (rw c.unwrap_or.ensures at c.min-count.ensures) in
+    let came = came_is c.args.got _ c.unwrap_or.ensures c.min-count.ensures in
     let sum = rw c.in_ok-self.ensures.ok_part at c.checked_add-bytes.ensures in
     let counted : c.args.self.now.heard.bytes + c.min-count.result ≤ largest_count = omega (arith, sum.0) in
     let long = length-take-le c.min-count.result c.args.input.now (rw (← came) (clamped_le c.args.got _)) in
