@@ -1,15 +1,15 @@
 -- A part of the input that is fed piece by piece, what a read makes of an input that is heard part by part, and its end. Assumes nothing.
-use mathlib.Core.Bool.{Bool, true, false, cond, false≢true}
+use mathlib.Core.Bool.{Bool, true, false, false≢true}
 use mathlib.Core.Logic.{⊎_elim}
 use mathlib.Core.List.{List, [], ◌∷◌, ◌++◌, append-nil, append_assoc}
 use mathlib.Core.Path.{◌≡◌, refl, ap, sym, subst, ◌∙◌}
-use Prim.Native.Nat.{ℕ, suc, ◌+◌, ◌-◌, ◌≤◌, ◌<◌}
+use Prim.Native.Nat.{ℕ, ◌+◌, ◌≤◌, ◌<◌}
 use native.Mathlib.Omega.{arith}
 use lib.Dec.{eqb, ltb}
 use lib.ListN.{length, take, drop, length-append, take-append-drop}
 use lib.Seq.{length-take-le}
 use borrow.Author.Tests.{eqb-false, eqb-true, le-ltb, ltb-false}
-use Rattle.std.specs.Prelude.{Option, Result, Ok, Err, IsErr, IsOk, min}
+use Rattle.std.specs.Prelude.{Option, Result, Ok, Err, min}
 use Rattle.std.specs.Result.{result_unwrap_or}
 use Rattle.std.specs.Io.KnownBytes.{Appends, Consumes, IsAtEnd, Keeps, ReadConsumes}
 use Rattle.std.proofs.lemmas.List.{nil_from_length, take_min}
@@ -22,9 +22,8 @@ use Rattle.session.specs.Sessions.{lines_of, session_text}
 use Rattle.session.specs.Stream.{noted_at_end, notes_at_end, printed_at_end, printed_for, reader_after, start, used_of, written_at_end}
 use Rattle.session.proofs.Parts.{notes_of_session, session_at_once}
 use Rattle.talk.specs.declared.Failure.{Failure}
-use Rattle.talk.specs.declared.Failure.TheVariants.{ReadFailed, TooMuch, WriteFailed}
 use Rattle.talk.specs.declared.Heard.{Heard}
-use Rattle.talk.specs.Talk.{ComesTo, Concludes, Cut, HeardWhole, Gave, HeardWriting, Hears, HearsBy, HearsWriting, SpokenWriting, ConcludesWriting, Taken, Wrote, WroteSome, clamp_len, ended, goes_on, is_zero, none_heard, read_failed, too_much, write_failed}
+use Rattle.talk.specs.Talk.{ComesTo, Concludes, Cut, HeardWhole, Gave, HeardWriting, Hears, HearsBy, HearsWriting, SpokenWriting, ConcludesWriting, Taken, WroteSome, clamp_len, ended, goes_on, is_zero, none_heard, read_failed, too_much, write_failed}
 use Rattle.session.proofs.Feeding.{printed-append, reader-append}
 use Rattle.session.proofs.Room.{used_fits, used_some}
 use Rattle.talk.proofs.Writing.{some_kept, some_of, some_on}
@@ -261,16 +260,6 @@ module _ {E : Type 0} (before : Heard) (got : Result ℕ E) (input : List ℕ) (
   pub more_counted : how ≡ goes_on → Hears before got input how after → (before.bytes < after.bytes) × (after.bytes ≤ largest_count)
   unfolding Hears
   more_counted on hears = counts (is_zero got) (eqb came 0) (ltb largest_count (before.bytes + came)) on refl refl hears
-
--- while the session goes on, so many bytes are left to be counted
-abbrev pub left_to_count : Bool → Heard → ℕ
-left_to_count goes heard = cond goes (suc (largest_count - heard.bytes)) 0
-
-pub less_to_count : {E : Type 0} (before : Heard) (got : Result ℕ E) (input : List ℕ) (goes : Bool) (after : Heard) → Hears before got input (Ok goes) after
-    → left_to_count goes after < left_to_count true before
-less_to_count before got input true after hears =
-    let more = more_counted before got input (Ok true) after refl hears in omega (arith, more.0, more.1)
-less_to_count before got input false after hears = omega arith
 
 -- ---- the end of the input
 

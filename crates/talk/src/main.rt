@@ -155,20 +155,18 @@ impl<'a, C: Clock, R: Read, W: Write> Talk<'a, C, R, W> {
             × Gave (length input.old) result (R.remaining self.old.ends.from) (R.remaining self.new.ends.from) all
             × HeardWriting result (W.contents self.old.ends.to) (W.contents self.new.ends.to) all }
     {
-        let mut goes_on = true;
-        while goes_on {
+        loop {
             let got = self.ends.read_part(input);
-            goes_on = self.hear(got, input, out)?;
+            let goes_on = self.hear(got, input, out)?;
+            if !goes_on {
+                return Ok(());
+            }
         }
-        Ok(())
     }
 
     // The end of an input that was heard. Where it has ended, a last line that lacks its newline is answered; else what is held of a line is never run.
-    fn conclude(
-        &mut self,
-        heard: Result<(), Failure>,
-        out: &mut [u8],
-    ) -> Result<Notes, Failure>
+    // What was heard is a parameter, and no ? of the caller's, so that the contract can say that a failure stays as it is and nothing more is written.
+    fn conclude(&mut self, heard: Result<(), Failure>, out: &mut [u8]) -> Result<Notes, Failure>
         requires { answer_room ≤ length out.old }
         ensures concludes { Concludes heard result
             × ((all : List ℕ) → HeardWhole heard self.old.heard all → Spoken result self.new.heard all) }

@@ -1,5 +1,5 @@
 -- By what the session came to: where its input has ended and all of the last answer was taken, the whole session was told (`spoken`).
-use Rattle.std.proofs.Common.{◌≡◌, refl, sym, ◌∙◌, inl, inr}
+use Rattle.std.proofs.Common.{refl, sym, ◌∙◌, inl, inr}
 use mathlib.Core.Bool.{false≢true}
 use Rattle.std.proofs.lemmas.Result.{err_from_is_err_and}
 use Rattle.talk.proofs.Telling.{cut_before_end, end_written, spoken, spoken_cut, spoken_notes}
@@ -22,7 +22,7 @@ returns-in_err-write-clause-concludes g c =
     rw (p.1, p.2, write.2, c.in_ok-heard.was) (
       (λ ok. inr refl, tt),
       λ all heard. (let told = heard.2 (λ e. cc) in
-        (heard.0 ∙ sym write.1, tt, λ e. spoken_cut all _ _ _ told.0 told.1 write.3, λ err other. absurd (other refl))),
+          (heard.0 ∙ sym write.1, tt, λ e. spoken_cut all _ _ _ told.0 told.1 write.3, λ err other. absurd (other refl))),
     )
 
 pub returns-clause-concludes : goal.returns-clause-concludes

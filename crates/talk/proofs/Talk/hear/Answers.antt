@@ -1,10 +1,10 @@
 -- By what the read has answered, test for test; a part that came is told, and the session goes on where it was told as whole.
-use Rattle.std.proofs.Common.{◌+◌, ◌≤◌, ◌<◌, ◌≡◌, length, take, arith, refl, ap, sym, ◌∙◌, inl, inr, min}
+use Rattle.std.proofs.Common.{◌+◌, ◌≤◌, ◌<◌, arith, refl, sym, ◌∙◌, inl, inr}
 use borrow.Author.Tests.{eq-eqb, le-ltb, lt-ltb, ne_eqb}
 use lib.Seq.{length-take-le}
 use Rattle.std.proofs.lemmas.Result.{err_from_is_err_and}
 use Rattle.session.specs.Notes.{largest_count}
-use Rattle.talk.specs.Talk.{Hears, clamp_len}
+use Rattle.talk.specs.Talk.{Hears}
 use Rattle.talk.proofs.Telling.{came_is, clamped_le}
 use Rattle.talk.proofs.Talk.hear.Goals as goal
 

@@ -1,7 +1,7 @@
 -- A piece that is fed is not empty and fits what is left (`left_used`); the last piece makes the part whole (`tells_all`).
 use borrow.Author.Tests.{eqb-false, eqb-true}
 use lib.ListN.{length-drop}
-use Rattle.std.proofs.Common.{◌≡◌, ◌≤◌, ◌<◌, [], length, arith, ap, sym, ◌∙◌, refl}
+use Rattle.std.proofs.Common.{◌≡◌, ◌≤◌, length, arith, sym, ◌∙◌, refl}
 use Rattle.text.specs.Text.{answer_room}
 use Rattle.std.proofs.lemmas.Result.{err_from_is_err_and}
 use Rattle.session.proofs.Room.{used_fits}
