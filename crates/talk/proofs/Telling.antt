@@ -1,6 +1,6 @@
 -- A part of the input that is fed piece by piece, what a read makes of an input that is heard part by part, and its end. Assumes nothing.
 use mathlib.Core.Bool.{Bool, true, false, false≢true}
-use mathlib.Core.Logic.{⊎_elim}
+use mathlib.Core.Logic.{◌⊎◌, ⊎_elim}
 use mathlib.Core.List.{List, [], ◌∷◌, ◌++◌, append-nil, append_assoc}
 use mathlib.Core.Path.{◌≡◌, refl, ap, sym, subst, ◌∙◌}
 use Prim.Native.Nat.{ℕ, ◌+◌, ◌≤◌, ◌<◌}
@@ -8,7 +8,7 @@ use native.Mathlib.Omega.{arith}
 use lib.Dec.{eqb, ltb}
 use lib.ListN.{length, take, drop, length-append, take-append-drop}
 use lib.Seq.{length-take-le}
-use borrow.Author.Tests.{eqb-false, eqb-true, le-ltb, ltb-false}
+use borrow.Author.Tests.{eqb-false, eqb-true, le-ltb, ltb-false, ne_eqb}
 use Rattle.std.specs.Prelude.{Option, Result, Ok, Err, min}
 use Rattle.std.specs.Result.{result_unwrap_or}
 use Rattle.std.specs.Io.KnownBytes.{Appends, Consumes, IsAtEnd, Keeps, ReadConsumes}
@@ -37,6 +37,7 @@ pub clamped_le : {E : Type 0} (got : Result ℕ E) (most : ℕ) → clamp_len go
 clamped_le (Ok n) most = omega arith
 clamped_le (Err e) most = omega arith
 
+-- and so many as the code counts
 pub came_is : {E : Type 0} (got : Result ℕ E) (most : ℕ) {count some : ℕ} → some ≡ result_unwrap_or got 0 → count ≡ min some most → clamp_len got most ≡ count
 came_is (Ok n) most is least = sym (least ∙ ap (λ (m : ℕ). min m most) is)
 came_is (Err e) most is least = omega (arith, is, least)
@@ -139,6 +140,21 @@ read_end (Err e) input r₁ r₂ keeps z some = absurd (false≢true z)
 zero_came : {E : Type 0} (got : Result ℕ E) (most : ℕ) → is_zero got ≡ true → clamp_len got most ≡ 0
 zero_came (Ok n) most z = omega (arith, eqb-true n 0 z)
 zero_came (Err e) most z = absurd (false≢true z)
+
+-- a part that came, and can be counted, is heard as its answers were taken
+pub hears_part : {E : Type 0} (before : Heard) (got : Result ℕ E) (input : List ℕ) (how : Result Bool Failure) (after : Heard) (count : ℕ)
+    → is_zero got ≡ false
+    → clamp_len got (length input) ≡ count
+    → (count ≡ 0 → ⊥)
+    → before.bytes + count ≤ largest_count
+    → after.bytes ≡ before.bytes + count
+    → ((how ≡ goes_on) × (after.reader ≡ reader_after before.reader (take count input)) × Taken before.taken (printed_for before.reader (take count input)) after.taken)
+    ⊎ ((how ≡ write_failed) × Cut before.taken (printed_for before.reader (take count input)) after.taken)
+    → Hears before got input how after
+unfolding Hears
+hears_part before got input how after count end came some few bytes told =
+    let long = length-take-le count input (rw (← came) (clamped_le got (length input))) in
+    rw (came, end, ne_eqb count 0 some, le-ltb largest_count (before.bytes + count) few) (omega (arith, bytes, long), told)
 
 -- all that was read was answered, and all its answers were taken
 abbrev pub HeardAll : Heard → List ℕ → Type 0
