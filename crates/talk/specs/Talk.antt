@@ -56,7 +56,8 @@ Writes before text (Ok _) after = (after.reader ≡ before.reader) × (after.byt
 Writes before text (Err why) after =
     (after.reader ≡ before.reader) × (after.bytes ≡ before.bytes) × (why ≡ WriteFailed) × Cut before.taken text after.taken
 
--- a part of the input is told as whole where all of it was read and all its answers were taken, and as not whole only where some were not taken
+-- a part of the input is told as whole where all of it was read and all its answers were taken, and as not whole only where some were not taken. Its
+-- bytes are counted before it is told
 abbrev pub Answers : {T : Type 0} → Heard → List ℕ → Result T Failure → Heard → Type 0
 Answers before part (Ok _) after =
     (after.bytes ≡ before.bytes) × (after.reader ≡ reader_after before.reader part) × Taken before.taken (printed_for before.reader part) after.taken
