@@ -1,9 +1,9 @@
 -- A part of the input that is fed piece by piece, what a read makes of an input that is heard part by part, and its end. Assumes nothing.
-use mathlib.Core.Bool.{Bool, true, false, false≢true}
+use mathlib.Core.Bool.{Bool, true, false, cond, false≢true}
 use mathlib.Core.Logic.{◌⊎◌, ⊎_elim}
 use mathlib.Core.List.{List, [], ◌∷◌, ◌++◌, append-nil, append_assoc}
 use mathlib.Core.Path.{◌≡◌, refl, ap, sym, subst, ◌∙◌}
-use Prim.Native.Nat.{ℕ, ◌+◌, ◌≤◌, ◌<◌}
+use Prim.Native.Nat.{ℕ, suc, ◌+◌, ◌-◌, ◌≤◌, ◌<◌}
 use native.Mathlib.Omega.{arith}
 use lib.Dec.{eqb, ltb}
 use lib.ListN.{length, take, drop, length-append, take-append-drop}
@@ -273,9 +273,21 @@ module _ {E : Type 0} (before : Heard) (got : Result ℕ E) (input : List ℕ) (
       (omega (arith, went.0, some, long), omega (arith, went.0, few, long))
 
   -- where the session goes on, more bytes were counted
-  pub more_counted : how ≡ goes_on → Hears before got input how after → (before.bytes < after.bytes) × (after.bytes ≤ largest_count)
+  more_counted : how ≡ goes_on → Hears before got input how after → (before.bytes < after.bytes) × (after.bytes ≤ largest_count)
   unfolding Hears
   more_counted on hears = counts (is_zero got) (eqb came 0) (ltb largest_count (before.bytes + came)) on refl refl hears
+
+-- while the session goes on, so many bytes are left to be counted
+abbrev pub left_to_count : Result Bool Failure → Heard → ℕ
+left_to_count (Ok goes) heard = cond goes (suc (largest_count - heard.bytes)) 0
+left_to_count (Err why) heard = 0
+
+-- and after a read fewer are left
+pub less_to_count : {E : Type 0} (before : Heard) (got : Result ℕ E) (input : List ℕ) (how : Result Bool Failure) (after : Heard) → Hears before got input how after
+    → left_to_count how after < left_to_count goes_on before
+less_to_count before got input (Ok true) after hears = let more = more_counted before got input goes_on after refl hears in omega (arith, more.0, more.1)
+less_to_count before got input (Ok false) after hears = omega arith
+less_to_count before got input (Err why) after hears = omega arith
 
 -- ---- the end of the input
 

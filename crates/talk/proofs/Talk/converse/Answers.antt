@@ -4,7 +4,7 @@ use mathlib.Core.Bool.{false≢true}
 use Rattle.std.proofs.lemmas.Result.{err_from_is_err_and}
 use Rattle.std.proofs.KnownBytes.{Appends-nil, Consumes-nil}
 use Rattle.session.specs.Stream.{printed_for}
-use Rattle.talk.proofs.Telling.{failed_whole, failed_writing, heard_more, more_counted, none_all}
+use Rattle.talk.proofs.Telling.{failed_whole, failed_writing, heard_more, less_to_count, none_all}
 use Rattle.talk.proofs.Talk.converse.Goals as goal
 
 pub loop-goes_on-init : goal.loop-goes_on-init
@@ -12,9 +12,7 @@ unfolding printed_for
 loop-goes_on-init g c = (refl, refl, ([], rw c.requires.begins none_all, Consumes-nil _, Appends-nil _))
 
 pub loop-goes_on-smaller : goal.loop-goes_on-smaller
-loop-goes_on-smaller g c =
-    let more = more_counted _ _ _ _ _ (ap Ok c.if-not-goes_on.false) c.in_ok-goes_on.ensures.hears in
-    omega (arith, more.0, more.1)
+loop-goes_on-smaller g c = rw c.if-not-goes_on.false at (less_to_count _ _ _ _ _ c.in_ok-goes_on.ensures.hears)
 
 pub loop-goes_on-preserved : goal.loop-goes_on-preserved
 loop-goes_on-preserved g c =

@@ -1,10 +1,10 @@
 -- What was read was answered (`HeardAll`), and what a read brings keeps this; while the session goes on, fewer bytes are left to be counted.
 -- Assumes nothing.
-use Rattle.std.proofs.Common.{◌≡◌, List, ℕ, ◌-◌, length}
+use Rattle.std.proofs.Common.{◌≡◌, List, ℕ, length}
 use Rattle.std.specs.Io.KnownBytes.{Appends, Consumes}
-use Rattle.session.specs.Notes.{largest_count}
 use Rattle.session.specs.Stream.{printed_for, start}
-use Rattle.talk.proofs.Telling.{HeardAll}
+use Rattle.talk.specs.Talk.{goes_on}
+use Rattle.talk.proofs.Telling.{HeardAll, left_to_count}
 use Rattle.talk.proofs.Talk.converse.Given as goal
 
 abbrev pub invariant-loop-goes_on : goal.invariant-loop-goes_on
@@ -17,4 +17,4 @@ invariant-loop-goes_on g l =
     × Appends (g.W.Write.contents l.fn.self.ends.to) (g.W.Write.contents l.self.ends.to) (printed_for start all))
 
 abbrev pub decreases-loop-goes_on : goal.decreases-loop-goes_on
-decreases-loop-goes_on g l = largest_count - l.self.heard.bytes
+decreases-loop-goes_on g l = left_to_count goes_on l.self.heard
