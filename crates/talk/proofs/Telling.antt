@@ -1,17 +1,18 @@
 -- A part of the input that is fed piece by piece, what a read makes of an input that is heard part by part, and its end. Assumes nothing.
 use mathlib.Core.Bool.{Bool, true, false, cond, false≢true}
-use mathlib.Core.Logic.{⊎_elim}
-use mathlib.Core.List.{List, [], ◌∷◌, ◌++◌, append-nil}
+use mathlib.Core.Logic.{◌⊎◌, ⊎_elim}
+use mathlib.Core.List.{List, [], ◌∷◌, ◌++◌, append-nil, append_assoc}
 use mathlib.Core.Path.{◌≡◌, refl, ap, sym, subst, ◌∙◌}
 use Prim.Native.Nat.{ℕ, suc, ◌+◌, ◌-◌, ◌≤◌, ◌<◌}
 use native.Mathlib.Omega.{arith}
 use lib.Dec.{eqb, ltb}
-use lib.ListN.{length, take, drop, length-append, length-drop, take-append-drop}
-use lib.Seq.{length-take-le, take_all}
-use borrow.Author.Tests.{eq-eqb, eqb-false, eqb-true, le-ltb, ltb-false, ne_eqb}
-use Rattle.std.specs.Prelude.{Option, Result, Ok, Err}
+use lib.ListN.{length, take, drop, length-append, take-append-drop}
+use lib.Seq.{length-take-le}
+use borrow.Author.Tests.{eqb-false, eqb-true, le-ltb, ltb-false, ne_eqb}
+use Rattle.std.specs.Prelude.{Option, Result, Ok, Err, min}
+use Rattle.std.specs.Result.{result_unwrap_or}
 use Rattle.std.specs.Io.KnownBytes.{Appends, Consumes, IsAtEnd, Keeps, ReadConsumes}
-use Rattle.std.proofs.lemmas.List.{take_min}
+use Rattle.std.proofs.lemmas.List.{nil_from_length, take_min}
 use Rattle.std.proofs.KnownBytes.{Appends-kept, Appends-nil, Appends-trans, Consumes-kept, Consumes-nil, Consumes-trans}
 use Rattle.text.specs.Text.{answer_room}
 use Rattle.session.specs.declared.Reader.{Reader}
@@ -20,15 +21,12 @@ use Rattle.session.specs.Notes.{counted_to, largest_count, none_yet, notes_of}
 use Rattle.session.specs.Sessions.{lines_of, session_text}
 use Rattle.session.specs.Stream.{noted_at_end, notes_at_end, printed_at_end, printed_for, reader_after, start, used_of, written_at_end}
 use Rattle.session.proofs.Parts.{notes_of_session, session_at_once}
+use Rattle.talk.specs.declared.Failure.{Failure}
 use Rattle.talk.specs.declared.Heard.{Heard}
-use Rattle.talk.specs.Talk.{Concludes, Cut, HeardWhole, Gave, HeardWriting, Hears, HearsBy, HearsWriting, SpokenWriting, ConcludesWriting, Taken, Wrote, WroteSome, clamp_len, comes_to, ended, goes_on, is_zero, read_failed, too_much, write_failed}
+use Rattle.talk.specs.Talk.{ComesTo, Concludes, Cut, HeardWhole, Gave, HeardWriting, Hears, HearsBy, HearsWriting, SpokenWriting, ConcludesWriting, Taken, WroteSome, clamp_len, ended, goes_on, is_zero, none_heard, read_failed, too_much, write_failed}
 use Rattle.session.proofs.Feeding.{printed-append, reader-append}
 use Rattle.session.proofs.Room.{used_fits, used_some}
-use Rattle.talk.proofs.Writing.{left, left_all, some_kept, some_of, some_on, taken_on}
-
--- counting on is counting all at once
-pub counted_on : (count some more : ℕ) → counted_to (counted_to count some) more ≡ counted_to count (some + more)
-counted_on count some more = omega arith
+use Rattle.talk.proofs.Writing.{some_kept, some_of, some_on}
 
 used_any : (bytes : List ℕ) (r : Reader) (room : ℕ) → answer_room ≤ room → 0 < length bytes → 0 < used_of r bytes room
 used_any [] r room enough none = omega arith
@@ -39,109 +37,92 @@ pub clamped_le : {E : Type 0} (got : Result ℕ E) (most : ℕ) → clamp_len go
 clamped_le (Ok n) most = omega arith
 clamped_le (Err e) most = omega arith
 
--- the answers to the first bytes of a part are no longer than those to all of it
-prefix_text : (r : Reader) (part : List ℕ) (n : ℕ) → length (printed_for r (take n part)) ≤ length (printed_for r part)
-prefix_text r part n =
-    let parted = ap (λ (l : List ℕ). length (printed_for r l)) (sym (take-append-drop n part))
-    ∙ ap length (printed-append r (take n part) (drop n part))
-    ∙ length-append (printed_for r (take n part)) _ in
-    omega (arith, parted)
+-- and so many as the code counts
+pub came_is : {E : Type 0} (got : Result ℕ E) (most : ℕ) {count some : ℕ} → some ≡ result_unwrap_or got 0 → count ≡ min some most → clamp_len got most ≡ count
+came_is (Ok n) most is least = sym (least ∙ ap (λ (m : ℕ). min m most) is)
+came_is (Err e) most is least = omega (arith, is, least)
 
--- the first bytes of a part were told: the reader after them, and so many bytes taken
-pub record Tells (first : Reader) (before : ℕ) (part : List ℕ) (from : ℕ) (r : Reader) (taken : ℕ) : Type 0 where
-  pub within : from ≤ length part
-  pub reads : r ≡ reader_after first (take from part)
-  pub takes : taken ≡ counted_to before (length (printed_for first (take from part)))
+-- some of a part was told: of the reader, and of what is printed, what is left of the part makes what the whole part makes of the first
+pub record Tells (first : Heard) (part : List ℕ) (now : Heard) (rest : List ℕ) (w₀ w : Option (List ℕ)) : Type 0 where
+  pub so_far : List ℕ
+  pub bytes : now.bytes ≡ first.bytes
+  pub reads : reader_after first.reader part ≡ reader_after now.reader rest
+  pub prints : printed_for first.reader part ≡ so_far ++ printed_for now.reader rest
+  pub takes : now.taken ≡ counted_to first.taken (length so_far)
+  pub wrote : Appends w₀ w so_far
 
-pub tells_none : (first : Reader) (before : ℕ) (part : List ℕ) → before ≤ largest_count → Tells first before part 0 first before
-unfolding reader_after printed_for
-tells_none first before part few = record { within = omega arith; reads = refl; takes = omega arith }
+pub tells_none : (first : Heard) (part : List ℕ) (w : Option (List ℕ)) → first.taken ≤ largest_count → Tells first part first part w w
+tells_none first part w few = record { so_far = []; bytes = refl; reads = refl; prints = refl; takes = omega arith; wrote = Appends-nil w }
 
-pub wrote_none : (first : Reader) (part : List ℕ) (known : Option (List ℕ)) → Appends known known (printed_for first (take 0 part))
-unfolding printed_for
-wrote_none first part known = Appends-nil known
-
-module _ (first : Reader) (before : ℕ) (part : List ℕ) (from : ℕ) (r : Reader) (taken : ℕ) (tells : Tells first before part from r taken) where
+module _ (first : Heard) (part : List ℕ) (now : Heard) (rest : List ℕ) (w₀ w : Option (List ℕ)) (tells : Tells first part now rest w₀ w) where
   -- with the room for an answer, some of what is left is used, and no more than that
-  pub left_used : (used room : ℕ) → from < length part → answer_room ≤ room → used ≡ used_of r (left part from) room → (0 < used) × (from + used ≤ length part)
-  left_used used room more enough uses =
-      let fits : used ≤ length (left part from) = used_fits (left part from) r room uses in
-      let some : 0 < used_of r (left part from) room = used_any (left part from) r room enough (omega (arith, ap length (left_all part from), length-drop from part)) in
-      (omega (arith, some), omega (arith, ap length (left_all part from), length-drop from part))
+  pub left_used : (used room : ℕ) → (length rest ≡ 0 → ⊥) → answer_room ≤ room → used ≡ used_of now.reader rest room → (0 < used) × (used ≤ length rest)
+  left_used used room more enough uses = (
+    (let some : 0 < used_of now.reader rest room = used_any rest now.reader room enough (omega (arith, more)) in omega (arith, some)),
+    used_fits rest now.reader room uses,
+  )
 
-  module _ (used written room : ℕ)
-      (uses : used ≡ used_of r (left part from) room)
-      (writes : written ≡ length (printed_for r (take (used_of r (left part from) room) (left part from)))) where
-    -- the piece that is fed next
-    piece : take (from + used) part ≡ take from part ++ take used (left part from)
-    piece = taken_on part from used
-
-    piece_used : take used (left part from) ≡ take (used_of r (left part from) room) (left part from)
-    piece_used = ap (λ (n : ℕ). take n (left part from)) uses
-
-    -- and its answers, which follow those to the bytes before it
+  module _ (used : ℕ) (after : Heard) (w' : Option (List ℕ)) where
+    -- the answers to the piece that is fed next, and those to what is left then
     abbrev text : List ℕ
-    text = printed_for r (take (used_of r (left part from) room) (left part from))
+    text = printed_for now.reader (take used rest)
 
-    pub piece_printed : printed_for first (take (from + used) part) ≡ printed_for first (take from part) ++ text
-    piece_printed =
-        ap (printed_for first) piece
-        ∙ printed-append first (take from part) (take used (left part from))
-        ∙ ap (λ (s : Reader). printed_for first (take from part) ++ printed_for s (take used (left part from))) (sym tells.reads)
-        ∙ ap (λ (l : List ℕ). printed_for first (take from part) ++ printed_for r l) piece_used
+    abbrev last : List ℕ
+    last = printed_for (reader_after now.reader (take used rest)) (drop used rest)
 
-    piece_text : length (printed_for first (take (from + used) part)) ≡ length (printed_for first (take from part)) + written
-    piece_text = ap length piece_printed ∙ length-append (printed_for first (take from part)) text ∙ ap (λ (n : ℕ). length (printed_for first (take from part)) + n) (sym writes)
+    printed_on : printed_for first.reader part ≡ (tells.so_far ++ text) ++ last
+    printed_on =
+        tells.prints
+        ∙ ap (λ (l : List ℕ). tells.so_far ++ printed_for now.reader l) (sym (take-append-drop used rest))
+        ∙ ap (λ (l : List ℕ). tells.so_far ++ l) (printed-append now.reader (take used rest) (drop used rest))
+        ∙ sym (append_assoc tells.so_far text last)
 
     -- with all its answers taken
-    pub tells_more : (put : ℕ) (next : Reader)
-        → next ≡ reader_after r (take (used_of r (left part from) room) (left part from))
-        → put ≡ written
-        → Tells first before part (from + used) next (counted_to taken put)
-    tells_more put next reads all =
-        let fits : used ≤ length (left part from) = used_fits (left part from) r room uses in
-        record {
-          within = omega (arith, ap length (left_all part from), length-drop from part, tells.within);
-          reads =
-              reads
-              ∙ ap (reader_after r) (sym piece_used)
-              ∙ ap (λ (s : Reader). reader_after s (take used (left part from))) tells.reads
-              ∙ sym (reader-append first (take from part) (take used (left part from)))
-              ∙ ap (reader_after first) (sym piece);
-          takes = omega (arith, tells.takes, piece_text, all);
-        }
+    pub tells_more : after.bytes ≡ now.bytes → after.reader ≡ reader_after now.reader (take used rest) → Taken now.taken text after.taken → Appends w w' text
+        → Tells first part after (drop used rest) w₀ w'
+    tells_more bytes reads takes wrote = record {
+      so_far = tells.so_far ++ text;
+      bytes = bytes ∙ tells.bytes;
+      reads =
+          tells.reads
+          ∙ ap (reader_after now.reader) (sym (take-append-drop used rest))
+          ∙ reader-append now.reader (take used rest) (drop used rest)
+          ∙ ap (λ (s : Reader). reader_after s (drop used rest)) (sym reads);
+      prints = printed_on ∙ ap (λ (s : Reader). (tells.so_far ++ text) ++ printed_for s (drop used rest)) (sym reads);
+      takes = omega (arith, takes, tells.takes, length-append tells.so_far text);
+      wrote = Appends-trans w₀ w w' tells.so_far text tells.wrote wrote;
+    }
 
     -- with some of them not taken
-    pub tells_cut : (put : ℕ) → put < written → Cut before (printed_for first part) (counted_to taken put)
-    tells_cut put few =
-        let whole = prefix_text first part (from + used) in (
-          length (printed_for first (take from part)) + put,
-          omega (arith, whole, piece_text),
-          omega (arith, tells.takes),
-        )
+    pub tells_cut : Cut now.taken text after.taken → Cut first.taken (printed_for first.reader part) after.taken
+    tells_cut cut = (
+      length tells.so_far + cut.0,
+      omega (arith, cut.1, ap length printed_on, length-append (tells.so_far ++ text) last, length-append tells.so_far text),
+      omega (arith, cut.2, tells.takes),
+    )
 
-    -- the same of what is known of the writer's bytes
-    pub tells_wrote : (before' at after : Option (List ℕ)) → Appends before' at (printed_for first (take from part)) → Appends at after text
-        → Appends before' after (printed_for first (take (from + used) part))
-    tells_wrote before' at after so_far wrote = rw piece_printed (Appends-trans before' at after _ text so_far wrote)
-
-    pub tells_wrote_some : (before' at after : Option (List ℕ)) → Appends before' at (printed_for first (take from part)) → WroteSome at after text
-        → WroteSome before' after (printed_for first part)
-    tells_wrote_some before' at after so_far cut =
-        let whole : printed_for first part ≡ (printed_for first (take from part) ++ text) ++ printed_for (reader_after first (take (from + used) part)) (drop (from + used) part)
-        = ap (printed_for first) (sym (take-append-drop (from + used) part))
-        ∙ printed-append first (take (from + used) part) (drop (from + used) part)
-        ∙ ap (λ (l : List ℕ). l ++ printed_for (reader_after first (take (from + used) part)) (drop (from + used) part)) piece_printed in
-        rw whole (some_of before' after _ _ (some_on before' at after _ text so_far cut))
+    pub tells_some : WroteSome w w' text → WroteSome w₀ w' (printed_for first.reader part)
+    tells_some cut = rw printed_on (some_of w₀ w' (tells.so_far ++ text) last (some_on w₀ w w' tells.so_far text tells.wrote cut))
 
   -- the whole part, once no byte of it is left
-  pub whole_wrote : (before' after : Option (List ℕ)) → length part ≤ from → Appends before' after (printed_for first (take from part)) → Appends before' after (printed_for first part)
-  whole_wrote before' after all wrote = subst (λ (l : List ℕ). Appends before' after (printed_for first l)) (take_all from part all) wrote
+  module _ (none : length rest ≡ 0) where
+    told : printed_for first.reader part ≡ tells.so_far
+    unfolding printed_for
+    told =
+        tells.prints
+        ∙ ap (λ (l : List ℕ). tells.so_far ++ printed_for now.reader l) (nil_from_length rest none)
+        ∙ append-nil tells.so_far
 
-  pub tells_all : length part ≤ from → (r ≡ reader_after first part) × (taken ≡ counted_to before (length (printed_for first part)))
-  tells_all all =
-      let whole : take from part ≡ part = take_all from part all in
-      (tells.reads ∙ ap (reader_after first) whole, tells.takes ∙ ap (λ (l : List ℕ). counted_to before (length (printed_for first l))) whole)
+    pub tells_all : (now.bytes ≡ first.bytes) × (now.reader ≡ reader_after first.reader part) × Taken first.taken (printed_for first.reader part) now.taken
+    unfolding reader_after
+    tells_all = (
+      tells.bytes,
+      sym (tells.reads ∙ ap (reader_after now.reader) (nil_from_length rest none)),
+      omega (arith, tells.takes, ap length told),
+    )
+
+    pub tells_wrote : Appends w₀ w (printed_for first.reader part)
+    tells_wrote = rw told tells.wrote
 
 -- ---- what a read has answered
 
@@ -160,20 +141,30 @@ zero_came : {E : Type 0} (got : Result ℕ E) (most : ℕ) → is_zero got ≡ t
 zero_came (Ok n) most z = omega (arith, eqb-true n 0 z)
 zero_came (Err e) most z = absurd (false≢true z)
 
--- and what is known of the writer after it, by whether the part was told as whole
-pub hears_whole : (whole : Bool) (how : ℕ) (old new : Option (List ℕ)) (text : List ℕ) → whole ≡ true → how ≡ goes_on → Wrote whole old new text
-    → HearsWriting how old new text
-hears_whole whole how old new text is on wrote = (λ e. rw is at wrote, λ e. absurd (omega (arith, e, on)), λ other kept. absurd (other on))
+-- a part that came, and can be counted, is heard as its answers were taken
+pub hears_part : {E : Type 0} (before : Heard) (got : Result ℕ E) (input : List ℕ) (how : Result Bool Failure) (after : Heard) (count : ℕ)
+    → is_zero got ≡ false
+    → clamp_len got (length input) ≡ count
+    → (count ≡ 0 → ⊥)
+    → before.bytes + count ≤ largest_count
+    → after.bytes ≡ before.bytes + count
+    → ((how ≡ goes_on) × (after.reader ≡ reader_after before.reader (take count input)) × Taken before.taken (printed_for before.reader (take count input)) after.taken)
+    ⊎ ((how ≡ write_failed) × Cut before.taken (printed_for before.reader (take count input)) after.taken)
+    → Hears before got input how after
+unfolding Hears
+hears_part before got input how after count end came some few bytes told =
+    let long = length-take-le count input (rw (← came) (clamped_le got (length input))) in
+    rw (came, end, ne_eqb count 0 some, le-ltb largest_count (before.bytes + count) few) (omega (arith, bytes, long), told)
 
-pub hears_cut : (whole : Bool) (how : ℕ) (old new : Option (List ℕ)) (text : List ℕ) → whole ≡ false → how ≡ write_failed → Wrote whole old new text
-    → HearsWriting how old new text
-hears_cut whole how old new text is failed wrote = (λ e. absurd (omega (arith, e, failed)), λ e. rw is at wrote, λ other kept. absurd (kept failed))
+-- all that was read was answered, and all its answers were taken
+abbrev pub HeardAll : Heard → List ℕ → Type 0
+HeardAll heard all = (length all ≡ heard.bytes) × (heard.reader ≡ reader_after start all) × Taken 0 (printed_for start all) heard.taken
 
--- while the session goes on, so many bytes are left to be counted
-abbrev pub left_to_count : Heard → ℕ
-left_to_count heard = cond (eqb heard.how goes_on) (suc (largest_count - heard.bytes)) 0
+pub none_all : HeardAll none_heard []
+unfolding reader_after printed_for
+none_all = (refl, refl, refl)
 
-module _ {E : Type 0} (before : Heard) (got : Result ℕ E) (input : List ℕ) (after : Heard) (on : before.how ≡ goes_on) where
+module _ {E : Type 0} (before : Heard) (got : Result ℕ E) (input : List ℕ) (how : Result Bool Failure) (after : Heard) where
   abbrev came : ℕ
   came = clamp_len got (length input)
 
@@ -182,137 +173,121 @@ module _ {E : Type 0} (before : Heard) (got : Result ℕ E) (input : List ℕ) (
 
   -- a part more was answered whole, or not
   abbrev Went : Type 0
-  Went = (after.how ≡ goes_on) × (after.reader ≡ reader_after before.reader part) × Taken before.taken (printed_for before.reader part) after.taken
+  Went = (how ≡ goes_on) × (after.reader ≡ reader_after before.reader part) × Taken before.taken (printed_for before.reader part) after.taken
 
   abbrev Failed : Type 0
-  Failed = (after.how ≡ write_failed) × Cut before.taken (printed_for before.reader part) after.taken
+  Failed = (how ≡ write_failed) × Cut before.taken (printed_for before.reader part) after.taken
 
-  module _ (all : List ℕ) (whole : HeardWhole before all) where
-    told : (before.reader ≡ reader_after start all) × Taken 0 (printed_for start all) before.taken
-    told = whole.2 (λ (e : before.how ≡ write_failed). omega (arith, e, on))
+  -- the input so far was answered, and with what came of the next read it is so again; with it what is known of the bytes that the reader has left and
+  -- of those that the writer holds: at the start, before this read, and after it
+  module _ (all : List ℕ) (whole : HeardAll before all) (r₀ r₁ r₂ w₀ w₁ w₂ : Option (List ℕ))
+      (gave : Consumes r₀ r₁ all) (reads : ReadConsumes r₁ r₂ got input)
+      (wrote : Appends w₀ w₁ (printed_for start all)) (writes : HearsWriting how w₁ w₂ (printed_for before.reader part)) where
+    abbrev HeardBytes : List ℕ → Type 0
+    HeardBytes more =
+        HeardWhole how after more
+        × ((how ≡ too_much → ⊥) → Consumes r₀ r₂ more)
+        × (0 < length input → how ≡ ended → IsAtEnd r₂)
+        × HeardWriting how w₀ w₂ more
 
-    -- where nothing more was read
-    stays : (how : ℕ) → after ≡ comes_to how before → (how ≡ write_failed → ⊥) → HeardWhole after all
-    stays how is other = rw is (whole.0, λ e. absurd (other e), λ e. told)
+    printed_more : printed_for start (all ++ part) ≡ printed_for start all ++ printed_for before.reader part
+    printed_more = printed-append start all part ∙ ap (λ (s : Reader). printed_for start all ++ printed_for s part) (sym whole.1)
 
     longer : length (printed_for start (all ++ part)) ≡ length (printed_for start all) + length (printed_for before.reader part)
-    longer =
-        ap length (printed-append start all part)
-        ∙ length-append (printed_for start all) _
-        ∙ ap (λ (s : Reader). length (printed_for start all) + length (printed_for s part)) (sym told.0)
+    longer = ap length printed_more ∙ length-append (printed_for start all) _
 
-    goes : after.bytes ≡ before.bytes + length part → Went → HeardWhole after (all ++ part)
-    goes bytes went = (
-      length-append all part ∙ omega (arith, bytes, whole.0),
-      λ (e : after.how ≡ write_failed). absurd (omega (arith, e, went.0)),
-      λ e. (
-        went.1 ∙ ap (λ (s : Reader). reader_after s part) told.0 ∙ sym (reader-append start all part),
-        omega (arith, went.2, told.1, longer),
-      ),
-    )
+    gave_on : Consumes r₀ r₂ (all ++ part)
+    gave_on = Consumes-trans r₀ r₁ r₂ all part gave (read_gave got input r₁ r₂ reads)
 
-    fails : after.bytes ≡ before.bytes + length part → Failed → HeardWhole after (all ++ part)
-    fails bytes failed =
-        let some = failed.1 in (
-          length-append all part ∙ omega (arith, bytes, whole.0),
-          λ e. (length (printed_for start all) + some.0, omega (arith, some.1, longer), omega (arith, some.2, told.1)),
-          λ e. absurd (e failed.0),
+    -- where nothing came, or what came could not be counted
+    stays : (end : Result Bool Failure) → ComesTo end before how after → (end ≡ write_failed → ⊥) → (end ≡ goes_on → ⊥)
+        → ((end ≡ too_much → ⊥) → Consumes r₀ r₂ all)
+        → (0 < length input → end ≡ ended → IsAtEnd r₂)
+        → HeardBytes all
+    stays end is other over still left =
+        let nothing : Keeps w₁ w₂ = writes.2 (λ e. over (sym is.0 ∙ e)) (λ e. other (sym is.0 ∙ e)) in (
+          rw is.1 (whole.0, λ e. absurd (other (sym is.0 ∙ e)), λ e. (whole.1, whole.2)),
+          λ counted. still (λ e. counted (is.0 ∙ e)),
+          λ some e. left some (sym is.0 ∙ e),
+          (λ e. absurd (other (sym is.0 ∙ e)), λ e. Appends-kept w₀ w₁ w₂ _ wrote nothing),
         )
 
-    by_tests : (zero none uncounted : Bool) → HearsBy zero none uncounted before part after → (more : List ℕ) × HeardWhole after more
-    by_tests true none uncounted is = (all, stays ended is (λ e. omega (arith, e)))
-    by_tests false true uncounted is = (all, stays read_failed is (λ e. omega (arith, e)))
-    by_tests false false true is = (all, stays too_much is (λ e. omega (arith, e)))
-    by_tests false false false went = (all ++ part, ⊎_elim (goes went.0) (fails went.0) went.1)
+    goes : after.bytes ≡ before.bytes + length part → Went → HeardBytes (all ++ part)
+    goes bytes went = (
+      (
+        length-append all part ∙ omega (arith, bytes, whole.0),
+        λ e. absurd (cc (e, went.0)),
+        λ e. (
+          went.1 ∙ ap (λ (s : Reader). reader_after s part) whole.1 ∙ sym (reader-append start all part),
+          omega (arith, went.2, whole.2, longer),
+        ),
+      ),
+      λ counted. gave_on,
+      λ some e. absurd (cc (e, went.0)),
+      (λ e. absurd (cc (e, went.0)), λ e. rw printed_more (Appends-trans w₀ w₁ w₂ _ _ wrote (writes.0 went.0))),
+    )
 
-    -- the input so far was answered, and with what came of the next read it is so again
-    pub heard_more : Hears before got input after → (more : List ℕ) × HeardWhole after more
+    fails : after.bytes ≡ before.bytes + length part → Failed → HeardBytes (all ++ part)
+    fails bytes failed = (
+      (
+        length-append all part ∙ omega (arith, bytes, whole.0),
+        λ e. (length (printed_for start all) + failed.1.0, omega (arith, failed.1.1, longer), omega (arith, failed.1.2, whole.2)),
+        λ e. absurd (e failed.0),
+      ),
+      λ counted. gave_on,
+      λ some e. absurd (cc (e, failed.0)),
+      (λ e. rw printed_more (some_on w₀ w₁ w₂ _ _ wrote (writes.1 failed.0)), λ e. absurd (e failed.0)),
+    )
+
+    none_came : came ≡ 0 → Consumes r₀ r₂ all
+    none_came none =
+        let nothing : part ≡ [] = ap (λ (n : ℕ). take n input) none in
+        subst (λ (l : List ℕ). Consumes r₀ r₂ l) (ap (λ (l : List ℕ). all ++ l) nothing ∙ append-nil all) gave_on
+
+    by_tests : (zero none uncounted : Bool) → is_zero got ≡ zero → eqb came 0 ≡ none → HearsBy zero none uncounted before part how after → (more : List ℕ) × HeardBytes more
+    by_tests true none uncounted z n is =
+        (all, stays ended is (λ e. cc) (λ e. cc) (λ counted. none_came (zero_came got (length input) z)) (λ some e. read_end got input r₁ r₂ reads z some))
+    by_tests false true uncounted z n is =
+        (all, stays read_failed is (λ e. cc) (λ e. cc) (λ counted. none_came (eqb-true came 0 n)) (λ some e. absurd (cc)))
+    by_tests false false true z n is =
+        (all, stays too_much is (λ e. cc) (λ e. cc) (λ counted. absurd (counted refl)) (λ some e. absurd (cc)))
+    by_tests false false false z n went = (all ++ part, ⊎_elim (goes went.0) (fails went.0) went.1)
+
+    pub heard_more : Hears before got input how after → (more : List ℕ) × HeardBytes more
     unfolding Hears
-    heard_more hears = by_tests (is_zero got) (eqb came 0) (ltb largest_count (before.bytes + came)) hears
-
-    -- the same of what is known of the bytes that the reader has left and of those that the writer holds: at the start, before this read, and after it
-    module _ (r₀ r₁ r₂ w₀ w₁ w₂ : Option (List ℕ)) (room : ℕ) (same : room ≡ length input)
-        (gave : Consumes r₀ r₁ all) (reads : ReadConsumes r₁ r₂ got input)
-        (wrote : Appends w₀ w₁ (printed_for start all)) (writes : HearsWriting after.how w₁ w₂ (printed_for before.reader part)) where
-      abbrev HeardBytes : List ℕ → Type 0
-      HeardBytes more = HeardWhole after more × Gave room after.how r₀ r₂ more × HeardWriting after.how w₀ w₂ more
-
-      printed_on : printed_for start (all ++ part) ≡ printed_for start all ++ printed_for before.reader part
-      printed_on = printed-append start all part ∙ ap (λ (s : Reader). printed_for start all ++ printed_for s part) (sym told.0)
-
-      gave_on : Consumes r₀ r₂ (all ++ part)
-      gave_on = Consumes-trans r₀ r₁ r₂ all part gave (read_gave got input r₁ r₂ reads)
-
-      -- where nothing came, or what came could not be counted
-      stays_bytes : (how : ℕ) → after ≡ comes_to how before → (how ≡ write_failed → ⊥) → (how ≡ goes_on → ⊥)
-          → ((how ≡ too_much → ⊥) → Consumes r₀ r₂ all)
-          → (0 < length input → how ≡ ended → IsAtEnd r₂)
-          → HeardBytes all
-      stays_bytes how is other over still end =
-          let comes : after.how ≡ how = ap (λ (h : Heard). h.how) is in
-          let nothing : Keeps w₁ w₂ = writes.2 (λ e. over (sym comes ∙ e)) (λ e. other (sym comes ∙ e)) in (
-            stays how is other,
-            (λ counted. still (λ e. counted (comes ∙ e)), λ some e. end (omega (arith, some, same)) (sym comes ∙ e)),
-            (λ e. absurd (other (sym comes ∙ e)), λ e. Appends-kept w₀ w₁ w₂ _ wrote nothing),
-          )
-
-      goes_bytes : after.bytes ≡ before.bytes + length part → Went → HeardBytes (all ++ part)
-      goes_bytes bytes went = (
-        goes bytes went,
-        (λ counted. gave_on, λ some e. absurd (omega (arith, e, went.0))),
-        (λ e. absurd (omega (arith, e, went.0)), λ e. rw printed_on (Appends-trans w₀ w₁ w₂ _ _ wrote (writes.0 went.0))),
-      )
-
-      fails_bytes : after.bytes ≡ before.bytes + length part → Failed → HeardBytes (all ++ part)
-      fails_bytes bytes failed = (
-        fails bytes failed,
-        (λ counted. gave_on, λ some e. absurd (omega (arith, e, failed.0))),
-        (λ e. rw printed_on (some_on w₀ w₁ w₂ _ _ wrote (writes.1 failed.0)), λ e. absurd (e failed.0)),
-      )
-
-      none_came : came ≡ 0 → Consumes r₀ r₂ all
-      none_came none =
-          let nothing : part ≡ [] = ap (λ (n : ℕ). take n input) none in
-          subst (λ (l : List ℕ). Consumes r₀ r₂ l) (ap (λ (l : List ℕ). all ++ l) nothing ∙ append-nil all) gave_on
-
-      bytes_by_tests : (zero none uncounted : Bool) → is_zero got ≡ zero → eqb came 0 ≡ none → HearsBy zero none uncounted before part after → (more : List ℕ) × HeardBytes more
-      bytes_by_tests true none uncounted z n is =
-          (all, stays_bytes ended is (λ e. omega (arith, e)) (λ e. omega (arith, e)) (λ counted. none_came (zero_came got (length input) z)) (λ some e. read_end got input r₁ r₂ reads z some))
-      bytes_by_tests false true uncounted z n is =
-          (all, stays_bytes read_failed is (λ e. omega (arith, e)) (λ e. omega (arith, e)) (λ counted. none_came (eqb-true came 0 n)) (λ some e. absurd (omega (arith, e))))
-      bytes_by_tests false false true z n is =
-          (all, stays_bytes too_much is (λ e. omega (arith, e)) (λ e. omega (arith, e)) (λ counted. absurd (counted refl)) (λ some e. absurd (omega (arith, e))))
-      bytes_by_tests false false false z n went = (all ++ part, ⊎_elim (goes_bytes went.0) (fails_bytes went.0) went.1)
-
-      pub heard_bytes : Hears before got input after → (more : List ℕ) × HeardBytes more
-      unfolding Hears
-      heard_bytes hears = bytes_by_tests (is_zero got) (eqb came 0) (ltb largest_count (before.bytes + came)) refl refl hears
-
-  ends : (how : ℕ) → after ≡ comes_to how before → eqb how goes_on ≡ false → left_to_count after < suc (largest_count - before.bytes)
-  ends how is other = rw (is, other) (omega arith)
+    heard_more hears = by_tests (is_zero got) (eqb came 0) (ltb largest_count (before.bytes + came)) refl refl hears
 
   counts : (zero none uncounted : Bool)
+      → how ≡ goes_on
       → eqb came 0 ≡ none
       → ltb largest_count (before.bytes + came) ≡ uncounted
-      → HearsBy zero none uncounted before part after
-      → left_to_count after < suc (largest_count - before.bytes)
-  counts true none uncounted n u is = ends ended is refl
-  counts false true uncounted n u is = ends read_failed is refl
-  counts false false true n u is = ends too_much is refl
-  counts false false false n u went =
+      → HearsBy zero none uncounted before part how after
+      → (before.bytes < after.bytes) × (after.bytes ≤ largest_count)
+  counts true none uncounted on n u is = absurd (cc (on, is.0))
+  counts false true uncounted on n u is = absurd (cc (on, is.0))
+  counts false false true on n u is = absurd (cc (on, is.0))
+  counts false false false on n u went =
       let some : came ≡ 0 → ⊥ = eqb-false came 0 n in
       let few : before.bytes + came ≤ largest_count = ltb-false largest_count (before.bytes + came) u in
       let long : length part ≡ came = length-take-le came input (clamped_le got (length input)) in
-      ⊎_elim
-      (λ (w : Went). rw (eq-eqb after.how goes_on w.0) (omega (arith, went.0, some, few, long)))
-      (λ (w : Failed). rw (ne_eqb after.how goes_on (λ (e : after.how ≡ goes_on). omega (arith, e, w.0))) (omega arith))
-      went.1
+      (omega (arith, went.0, some, long), omega (arith, went.0, few, long))
 
-  -- and fewer bytes are left to be counted
-  pub less_to_count : Hears before got input after → left_to_count after < left_to_count before
+  -- where the session goes on, more bytes were counted
+  more_counted : how ≡ goes_on → Hears before got input how after → (before.bytes < after.bytes) × (after.bytes ≤ largest_count)
   unfolding Hears
-  less_to_count hears =
-      rw (eq-eqb before.how goes_on on) (counts (is_zero got) (eqb came 0) (ltb largest_count (before.bytes + came)) refl refl hears)
+  more_counted on hears = counts (is_zero got) (eqb came 0) (ltb largest_count (before.bytes + came)) on refl refl hears
+
+-- while the session goes on, so many bytes are left to be counted
+abbrev pub left_to_count : Result Bool Failure → Heard → ℕ
+left_to_count (Ok goes) heard = cond goes (suc (largest_count - heard.bytes)) 0
+left_to_count (Err why) heard = 0
+
+-- and after a read fewer are left
+pub less_to_count : {E : Type 0} (before : Heard) (got : Result ℕ E) (input : List ℕ) (how : Result Bool Failure) (after : Heard) → Hears before got input how after
+    → left_to_count how after < left_to_count goes_on before
+less_to_count before got input (Ok true) after hears = let more = more_counted before got input goes_on after refl hears in omega (arith, more.0, more.1)
+less_to_count before got input (Ok false) after hears = omega arith
+less_to_count before got input (Err why) after hears = omega arith
 
 -- ---- the end of the input
 
@@ -321,80 +296,76 @@ session_text_lem : (all : List ℕ) → length (session_text all) ≡ length (pr
 session_text_lem all = sym (ap length (session_at_once all)) ∙ length-append (printed_for start all) _
 
 -- with the room for an answer, all of the end is written
-pub end_wrote : (old new : Option (List ℕ)) (r : Reader) (room : ℕ) → answer_room ≤ room → Appends old new (written_at_end r room) → Appends old new (printed_at_end r)
-end_wrote old new r room enough wrote = rw (le-ltb room answer_room enough) at wrote
-
-pub end_wrote_some : (old new : Option (List ℕ)) (r : Reader) (room : ℕ) → answer_room ≤ room → WroteSome old new (written_at_end r room)
-    → WroteSome old new (printed_at_end r)
-end_wrote_some old new r room enough wrote = rw (le-ltb room answer_room enough) at wrote
+pub end_written : (r : Reader) (room : ℕ) → answer_room ≤ room → written_at_end r room ≡ printed_at_end r
+end_written r room enough = rw (le-ltb room answer_room enough) refl
 
 pub cut_before_end : (all : List ℕ) (taken : ℕ) → Cut 0 (printed_for start all) taken → Cut 0 (session_text all) taken
 cut_before_end all taken cut = (cut.0, omega (arith, cut.1, session_text_lem all), cut.2)
 
-module _ (all : List ℕ) (r : Reader) (taken room written took : ℕ) (reads : r ≡ reader_after start all) (takes : Taken 0 (printed_for start all) taken)
-    (enough : answer_room ≤ room) (writes : written ≡ length (written_at_end r room)) where
-  end_text : written ≡ length (printed_at_end (reader_after start all))
-  end_text = writes ∙ rw (le-ltb room answer_room enough) (ap (λ (s : Reader). length (printed_at_end s)) reads)
+module _ (all : List ℕ) (r : Reader) (taken after : ℕ) (reads : r ≡ reader_after start all) (takes : Taken 0 (printed_for start all) taken) where
+  end_text : length (printed_at_end r) ≡ length (printed_at_end (reader_after start all))
+  end_text = ap (λ (s : Reader). length (printed_at_end s)) reads
 
-  -- with the last answer taken, what was told is the session of the whole input, and what was noted is noted of all its lines
-  pub spoken : (notes : Notes)
-      → notes ≡ notes_at_end r room
-      → took ≡ written
-      → Taken 0 (session_text all) (counted_to taken took) × (notes ≡ notes_of none_yet (lines_of all))
-  spoken notes noted whole = (
-    omega (arith, session_text_lem all, end_text, takes, whole),
-    noted ∙ rw (le-ltb room answer_room enough) (ap noted_at_end reads ∙ notes_of_session all),
-  )
+  -- with the last answer taken, what was told is the session of the whole input
+  pub spoken : Taken taken (printed_at_end r) after → Taken 0 (session_text all) after
+  spoken whole = omega (arith, session_text_lem all, end_text, takes, whole)
 
   -- with some of it not taken
-  pub spoken_cut : took < written → Cut 0 (session_text all) (counted_to taken took)
-  spoken_cut few = (length (printed_for start all) + took, omega (arith, session_text_lem all, end_text), omega (arith, takes))
+  pub spoken_cut : Cut taken (printed_at_end r) after → Cut 0 (session_text all) after
+  spoken_cut cut = (length (printed_for start all) + cut.0, omega (arith, cut.1, session_text_lem all, end_text), omega (arith, cut.2, takes))
 
--- a session that has come to something does not go on
-pub concluded : (heard end : ℕ) → (heard ≡ goes_on → ⊥) → Concludes heard end → end ≡ goes_on → ⊥
-concluded heard end over concludes on = by_test (eqb heard ended) refl
-  where
-    by_test : (test : Bool) → eqb heard ended ≡ test → ⊥
-    by_test true e =
-        ⊎_elim (λ (w : end ≡ ended). omega (arith, on, w)) (λ (w : end ≡ write_failed). omega (arith, on, w)) (concludes.0 (eqb-true heard ended e))
-    by_test false e = over (sym (concludes.1 (eqb-false heard ended e)) ∙ on)
+  -- and what was noted is noted of all its lines
+  pub spoken_notes : (notes : Notes) (room : ℕ) → answer_room ≤ room → notes ≡ notes_at_end r room → notes ≡ notes_of none_yet (lines_of all)
+  spoken_notes notes room enough noted = noted ∙ rw (le-ltb room answer_room enough) (ap noted_at_end reads ∙ notes_of_session all)
+
+-- a failure is one of whatever was to come
+pub failed_whole : {S T : Type 0} (why : Failure) (heard : Heard) (all : List ℕ) → HeardWhole {T = S} (Err why) heard all → HeardWhole {T = T} (Err why) heard all
+failed_whole why heard all whole = (whole.0, λ e. whole.1 (cc e), λ other. whole.2 (λ e. other (cc e)))
+
+pub failed_writing : {S T : Type 0} (why : Failure) (w₀ w₁ : Option (List ℕ)) (all : List ℕ) → HeardWriting {T = S} (Err why) w₀ w₁ all
+    → HeardWriting {T = T} (Err why) w₀ w₁ all
+failed_writing why w₀ w₁ all wrote = (λ e. wrote.0 (cc e), λ other. wrote.1 (λ e. other (cc e)))
 
 -- what is known of the bytes of the reader and of the writer, at the start, after what was heard, and at the end
-module _ (all : List ℕ) (heard : Heard) (end room : ℕ) (r₀ r₁ w₀ w₁ w₂ : Option (List ℕ)) (whole : HeardWhole heard all) (concludes : Concludes heard.how end)
-    (gave : Gave room heard.how r₀ r₁ all) (wrote : HeardWriting heard.how w₀ w₁ all)
-    (closes : ConcludesWriting heard.how end w₁ w₂ (printed_at_end heard.reader)) where
-  abbrev SpokenBytes : Type 0
-  SpokenBytes = Gave room end r₀ r₁ all × SpokenWriting end w₀ w₂ all
-
-  at_end : heard.how ≡ ended → SpokenBytes
-  at_end e =
-      let told = whole.2 (λ failed. omega (arith, e, failed)) in
-      let done : Appends w₀ w₁ (printed_for start all) = wrote.1 (λ failed. omega (arith, e, failed)) in
-      let text : printed_for start all ++ printed_at_end heard.reader ≡ session_text all
-      = ap (λ (s : Reader). printed_for start all ++ printed_at_end s) told.0 ∙ session_at_once all in (
-        (λ counted. gave.0 (λ much. omega (arith, e, much)), λ some ends. gave.1 some e),
-        (
-          λ ends. subst (λ (l : List ℕ). Appends w₀ w₂ l) text (Appends-trans w₀ w₁ w₂ _ _ done (closes.0 e ends)),
-          λ failed. subst (λ (l : List ℕ). WroteSome w₀ w₂ l) text (some_on w₀ w₁ w₂ _ _ done (closes.1 e failed)),
-          λ other kept. absurd (⊎_elim other kept (concludes.0 e)),
-        ),
-      )
-
-  before_end : (heard.how ≡ ended → ⊥) → SpokenBytes
-  before_end other =
-      let same : end ≡ heard.how = concludes.1 other in
-      let nothing : Keeps w₁ w₂ = closes.2 other in (
-        (λ counted. gave.0 (λ much. counted (same ∙ much)), λ some ends. absurd (other (sym same ∙ ends))),
-        (
-          λ ends. absurd (other (sym same ∙ ends)),
-          λ failed. subst (λ (l : List ℕ). WroteSome w₀ w₂ l) (session_at_once all) (some_of w₀ w₂ _ _ (some_kept w₀ w₁ w₂ _ (wrote.0 (sym same ∙ failed)) nothing)),
-          λ ends kept. Appends-kept w₀ w₁ w₂ _ (wrote.1 (λ failed. kept (same ∙ failed))) nothing,
-        ),
-      )
-
-  pub spoken_bytes : SpokenBytes
-  spoken_bytes = by_test (eqb heard.how ended) refl
-    where
-      by_test : (test : Bool) → eqb heard.how ended ≡ test → SpokenBytes
-      by_test true e = at_end (eqb-true heard.how ended e)
-      by_test false e = before_end (eqb-false heard.how ended e)
+pub spoken_bytes : {S T : Type 0} (heard : Result S Failure) (end : Result T Failure) (all : List ℕ) (h : Heard) (room : ℕ) (r₀ r₁ w₀ w₁ w₂ : Option (List ℕ))
+    → HeardWhole heard h all
+    → Gave room heard r₀ r₁ all
+    → HeardWriting heard w₀ w₁ all
+    → Concludes heard end
+    → ConcludesWriting heard end w₁ w₂ (printed_at_end h.reader)
+    → Gave room end r₀ r₁ all × SpokenWriting end w₀ w₂ all
+spoken_bytes (Ok x) (Ok y) all h room r₀ r₁ w₀ w₁ w₂ whole gave wrote concludes closes =
+    let told = whole.2 (λ e. cc) in
+    let done : Appends w₀ w₁ (printed_for start all) = wrote.1 (λ e. cc) in
+    let text : printed_for start all ++ printed_at_end h.reader ≡ session_text all
+    = ap (λ (s : Reader). printed_for start all ++ printed_at_end s) told.0 ∙ session_at_once all in (
+      (λ counted. gave.0 (λ e. cc), λ some ok. gave.1 some refl),
+      (
+        λ ok. subst (λ (l : List ℕ). Appends w₀ w₂ l) text (Appends-trans w₀ w₁ w₂ _ _ done (closes.0 refl refl)),
+        λ e. absurd (cc),
+        λ e. absurd (false≢true e),
+      ),
+    )
+spoken_bytes (Ok x) (Err why) all h room r₀ r₁ w₀ w₁ w₂ whole gave wrote concludes closes =
+    let told = whole.2 (λ e. cc) in
+    let done : Appends w₀ w₁ (printed_for start all) = wrote.1 (λ e. cc) in
+    let text : printed_for start all ++ printed_at_end h.reader ≡ session_text all
+    = ap (λ (s : Reader). printed_for start all ++ printed_at_end s) told.0 ∙ session_at_once all in (
+      (λ counted. gave.0 (λ e. cc), λ some ok. absurd (false≢true ok)),
+      (
+        λ ok. absurd (false≢true ok),
+        λ failed. subst (λ (l : List ℕ). WroteSome w₀ w₂ l) text (some_on w₀ w₁ w₂ _ _ done (closes.1 refl failed)),
+        λ e other. absurd (⊎_elim false≢true other (concludes.0 refl)),
+      ),
+    )
+spoken_bytes (Err why) (Ok y) all h room r₀ r₁ w₀ w₁ w₂ whole gave wrote concludes closes = absurd (cc (concludes.1))
+spoken_bytes (Err why) (Err e) all h room r₀ r₁ w₀ w₁ w₂ whole gave wrote concludes closes =
+    let nothing : Keeps w₁ w₂ = closes.2 refl in
+    let same : e ≡ why = cc (concludes.1) in (
+      (λ counted. gave.0 (λ much. counted (cc (same, much))), λ some ok. absurd (false≢true ok)),
+      (
+        λ ok. absurd (false≢true ok),
+        λ failed. subst (λ (l : List ℕ). WroteSome w₀ w₂ l) (session_at_once all) (some_of w₀ w₂ _ _ (some_kept w₀ w₁ w₂ _ (wrote.0 (cc (same, failed))) nothing)),
+        λ err other. Appends-kept w₀ w₁ w₂ _ (wrote.1 (λ failed. other (cc (same, failed)))) nothing,
+      ),
+    )

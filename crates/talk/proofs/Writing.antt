@@ -1,7 +1,7 @@
 -- What is known of a writer's bytes after some writes, and after some more. Assumes nothing.
 use mathlib.Core.List.{List, ◌++◌}
 use mathlib.Core.Path.{◌≡◌, ap, sym, subst, ◌∙◌}
-use Prim.Native.Nat.{ℕ, ◌+◌, ◌-◌, ◌≤◌, ◌<◌}
+use Prim.Native.Nat.{ℕ, ◌+◌, ◌-◌, ◌≤◌}
 use native.Mathlib.Omega.{arith}
 use lib.ListN.{length, take, drop, length-append, length-drop}
 use lib.Seq.{take-add, take_all}
@@ -42,19 +42,6 @@ wrote_nothing first before after text taken took none so_far more =
 
 pub front : (text rest buffer : List ℕ) (written : ℕ) → written ≡ length text → buffer ≡ text ++ rest → take written buffer ≡ text
 front text rest buffer written is stands = rw (is, stands) (take-append_seam text rest)
-
-module _ (before after : Option (List ℕ)) (text rest buffer : List ℕ) (written took : ℕ)
-    (is : written ≡ length text) (stands : buffer ≡ text ++ rest) (wrote : Appends before after (take took (take written buffer))) where
-  pub wrote_front : Appends before after (take took text)
-  wrote_front = subst (λ (l : List ℕ). Appends before after (take took l)) (front text rest buffer written is stands) wrote
-
-  pub wrote_whole : took ≡ written → Appends before after text
-  wrote_whole all =
-      let whole : take took text ≡ text = take_all took text (omega (arith, all, is)) in
-      subst (λ (l : List ℕ). Appends before after l) whole wrote_front
-
-  pub wrote_cut : took < written → WroteSome before after text
-  wrote_cut few = (took, omega (arith, few, is), wrote_front)
 
 -- ---- a text of which only some was written
 

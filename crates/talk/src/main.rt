@@ -7,12 +7,12 @@
 mod tests;
 mod waiting;
 
-ghost use Rattle.std.specs.Prelude.{◌≡◌, ◌↔◌, true, IsSomeAnd, List, ℕ, ◌≤◌, length, take};
+ghost use Rattle.std.specs.Prelude.{◌≡◌, ◌↔◌, IsSomeAnd, IsTrue, List, ℕ, ◌≤◌, length, take};
 ghost use Rattle.std.specs.IoError.{error_kind};
 ghost use Rattle.std.specs.declared.io.ErrorKind.TheVariants.{BrokenPipe};
 ghost use Rattle.text.specs.Text.{answer_room};
 ghost use Rattle.session.specs.Stream.{printed_at_end, printed_for};
-ghost use Rattle.talk.specs.Talk.{Answers, Concludes, ConcludesWriting, Gave, HeardWhole, HeardWriting, Hears, HearsWriting, Spoken, SpokenWriting, Wrote, clamp_len, goes_on, is_zero, write_failed};
+ghost use Rattle.talk.specs.Talk.{Answers, Concludes, ConcludesWriting, Gave, HeardWhole, HeardWriting, Hears, HearsWriting, Spoken, SpokenWriting, Writes, Wrote, clamp_len, is_zero, none_heard};
 
 use session::{Notes, Reader};
 use std::alloc::Alloc;
@@ -21,19 +21,8 @@ use std::io::{ErrorKind, Read, Write};
 use std::process::ExitCode;
 use std::rt::Files;
 use std::time::Clock;
-use std::{fs, io};
+use std::{fmt, fs, io};
 use waiting::Ends;
-
-// What a session came to.
-const GOES_ON: u32 = 0;
-
-const ENDED: u32 = 1;
-
-const READ_FAILED: u32 = 2;
-
-const WRITE_FAILED: u32 = 3;
-
-const TOO_MUCH: u32 = 4;
 
 // Where the report of a complete end goes: descriptor 3; and what the system tells of it.
 const REPORT: &str = "/dev/fd/3";
@@ -43,231 +32,172 @@ const ABOUT_REPORT: &str = "/proc/self/fdinfo/3";
 // The status of a program that the signal of a broken pipe, 13, has ended. The signal itself is ignored here, and the write fails.
 const READER_GONE: u8 = 141;
 
-// The reader after a part, how many bytes of answers were taken up to its end, and whether all of its own were.
-#[derive(Clone, Copy)]
-struct Told {
-    reader: Reader,
-    taken: u64,
-    whole: bool,
+// Why a session has failed.
+#[derive(Clone, Copy, Debug, PartialEq, Eq)]
+enum Failure {
+    ReadFailed,
+    WriteFailed,
+    TooMuch,
 }
 
-// The reader after the input that was read, how many bytes of its answers were taken, how many bytes it has, and what the session came to.
+impl fmt::Display for Failure {
+    fn fmt<W: fmt::Write>(&self, f: &mut fmt::Formatter<W>) -> fmt::Result {
+        f.write_str(match self {
+            Failure::ReadFailed => "standard input could not be read",
+            Failure::WriteFailed => "the answers could not be written",
+            Failure::TooMuch => "the input has more bytes than can be counted",
+        })
+    }
+}
+
+// The reader after the input that was read, how many bytes of its answers were taken, and how many bytes it has.
 #[derive(Clone, Copy)]
 struct Heard {
     reader: Reader,
     taken: u64,
     bytes: u64,
-    how: u32,
-}
-
-// What a session came to, how many bytes its input has, how many bytes of its answers were taken, and what was noted of its lines.
-#[derive(Clone, Copy)]
-struct End {
-    how: u32,
-    bytes: u64,
-    taken: u64,
-    notes: Notes,
-}
-
-// Answers one part of the input. What the answers to a piece of it leave of out may be too little for the next answer: so each piece's answers are
-// written away before the rest of the part is fed.
-fn tell<C: Clock, R: Read, W: Write>(
-    ends: &mut Ends<'_, C, R, W>,
-    reader: Reader,
-    taken: u64,
-    part: &[u8],
-    out: &mut [u8],
-) -> Told
-    requires { answer_room ≤ length out.old }
-    ensures answers { Answers reader taken part.now result }
-    ensures reader { ends.new.from ≡ ends.old.from }
-    ensures wrote { Wrote result.whole (W.contents ends.old.to) (W.contents ends.new.to) (printed_for reader part.now) }
-{
-    let mut now = reader;
-    let mut so_far = taken;
-    let mut from = 0;
-    while from < part.len() {
-        let fed = session::feed(now, &part[from..], out);
-        let next = fed.reader;
-        now = next;
-        from += fed.used;
-        let written = fed.written;
-        let took = ends.write_out(&out[..written]);
-        so_far = session::counted(so_far, took);
-        if took < written {
-            return Told {
-                reader: now,
-                taken: so_far,
-                whole: false,
-            };
-        }
-    }
-    Told {
-        reader: now,
-        taken: so_far,
-        whole: true,
-    }
 }
 
 // Whether a read has answered the end of the input.
 fn is_end(got: io::Result<usize>) -> bool
     ensures { result ≡ is_zero got }
 {
-    match got {
-        Ok(count) => count == 0,
-        Err(_) => false,
-    }
+    matches!(got, Ok(0))
 }
 
-// How many bytes a read has brought, of at most so many.
-fn came(got: io::Result<usize>, most: usize) -> usize
-    ensures { result ≡ clamp_len got most }
-{
-    match got {
-        Ok(count) => count.min(most),
-        Err(_) => 0,
-    }
-}
-
-// Hears what a read has answered: the end of the input, a failure, or a part, which is at the front of input.
-fn hear<C: Clock, R: Read, W: Write>(
-    ends: &mut Ends<'_, C, R, W>,
+// A session over two ends, and what was heard of it. Where it fails, that stays: what was read before and how much of the answers was taken.
+#[derive(Drop)]
+struct Talk<'a, C, R, W> {
+    ends: Ends<'a, C, R, W>,
     heard: Heard,
-    got: io::Result<usize>,
-    input: &[u8],
-    out: &mut [u8],
-) -> Heard
-    requires { answer_room ≤ length out.old }
-    ensures hears { Hears heard got input.now result }
-    ensures reader { ends.new.from ≡ ends.old.from }
-    ensures wrote { let part = take (clamp_len got (length input.now)) input.now in
-        HearsWriting result.how (W.contents ends.old.to) (W.contents ends.new.to) (printed_for heard.reader part) }
-{
-    let reader = heard.reader;
-    let taken = heard.taken;
-    let bytes = heard.bytes;
-    if is_end(got) {
-        return Heard {
-            reader,
-            taken,
-            bytes,
-            how: ENDED,
-        };
-    }
-    let count = came(got, input.len());
-    if count == 0 {
-        return Heard {
-            reader,
-            taken,
-            bytes,
-            how: READ_FAILED,
-        };
-    }
-    if count as u64 > u64::MAX - bytes {
-        return Heard {
-            reader,
-            taken,
-            bytes,
-            how: TOO_MUCH,
-        };
-    }
-    let told = tell(ends, reader, taken, &input[..count], out);
-    let next = told.reader;
-    let how = if told.whole { GOES_ON } else { WRITE_FAILED };
-    Heard {
-        reader: next,
-        taken: told.taken,
-        bytes: bytes + count as u64,
-        how,
-    }
 }
 
-// Reads and answers, part by part, as long as the session goes on. Every program here ends: this one where no number could count its bytes.
-fn converse<C: Clock, R: Read, W: Write>(
-    ends: &mut Ends<'_, C, R, W>,
-    input: &mut [u8],
-    out: &mut [u8],
-) -> Heard
-    requires { answer_room ≤ length out.old }
-    ensures heard { (result.how ≡ goes_on → ⊥) × ((all : List ℕ) × HeardWhole result all) }
-    ensures bytes { (all : List ℕ) × HeardWhole result all
-        × Gave (length input.old) result.how (R.remaining ends.old.from) (R.remaining ends.new.from) all
-        × HeardWriting result.how (W.contents ends.old.to) (W.contents ends.new.to) all }
-{
-    let mut heard = Heard {
-        reader: session::started(),
-        taken: 0,
-        bytes: 0,
-        how: GOES_ON,
-    };
-    while heard.how == GOES_ON {
-        let got = ends.read_part(input);
-        heard = hear(ends, heard, got, input, out);
-    }
-    heard
-}
-
-// The end of an input that was heard. Where it has ended, a last line that lacks its newline is answered; else what is held of a line is never run.
-fn conclude<C: Clock, R: Read, W: Write>(
-    ends: &mut Ends<'_, C, R, W>,
-    heard: Heard,
-    out: &mut [u8],
-) -> End
-    requires { answer_room ≤ length out.old }
-    ensures concludes { Concludes heard.how result.how × ((all : List ℕ) → HeardWhole heard all → Spoken result all) }
-    ensures reader { ends.new.from ≡ ends.old.from }
-    ensures wrote { ConcludesWriting heard.how result.how (W.contents ends.old.to) (W.contents ends.new.to) (printed_at_end heard.reader) }
-{
-    let reader = heard.reader;
-    let mut how = heard.how;
-    let mut taken = heard.taken;
-    let mut notes = reader.notes;
-    let ended = how == ENDED;
-    if ended {
-        let finished = session::finish(reader, out);
-        let written = finished.written;
-        let took = ends.write_out(&out[..written]);
-        taken = session::counted(taken, took);
-        let noted = finished.notes;
-        notes = noted;
-        if took < written {
-            how = WRITE_FAILED;
+impl<'a, C: Clock, R: Read, W: Write> Talk<'a, C, R, W> {
+    fn new(ends: Ends<'a, C, R, W>) -> Talk<'a, C, R, W>
+        ensures ends { result.ends ≡ ends.entry }
+        ensures heard { result.heard ≡ none_heard }
+    {
+        Talk {
+            ends,
+            heard: Heard {
+                reader: session::started(),
+                taken: 0,
+                bytes: 0,
+            },
         }
     }
-    End {
-        how,
-        bytes: heard.bytes,
-        taken,
-        notes,
-    }
-}
 
-// A whole session.
-fn speak<C: Clock, R: Read, W: Write>(
-    ends: &mut Ends<'_, C, R, W>,
-    input: &mut [u8],
-    out: &mut [u8],
-) -> End
-    requires { answer_room ≤ length out.old }
-    ensures spoken { (result.how ≡ goes_on → ⊥) × ((all : List ℕ) × Spoken result all) }
-    ensures bytes { (all : List ℕ) × Spoken result all
-        × Gave (length input.old) result.how (R.remaining ends.old.from) (R.remaining ends.new.from) all
-        × SpokenWriting result.how (W.contents ends.old.to) (W.contents ends.new.to) all }
-{
-    let heard = converse(ends, input, out);
-    conclude(ends, heard, out)
+    // Writes answers away, and counts their bytes that were taken.
+    fn write(&mut self, answers: &[u8]) -> Result<(), Failure>
+        ensures writes { Writes self.old.heard answers.now result self.new.heard }
+        ensures reader { self.new.ends.from ≡ self.old.ends.from }
+        ensures wrote { Wrote result (W.contents self.old.ends.to) (W.contents self.new.ends.to) answers.now }
+    {
+        let took = self.ends.write_out(answers);
+        self.heard.taken = session::counted(self.heard.taken, took);
+        if took < answers.len() {
+            return Err(Failure::WriteFailed);
+        }
+        Ok(())
+    }
+
+    // Answers one part of the input. What the answers to a piece of it leave of out may be too little for the next answer: so each piece's answers are
+    // written away before the rest of the part is fed.
+    fn tell(&mut self, part: &[u8], out: &mut [u8]) -> Result<(), Failure>
+        requires { answer_room ≤ length out.old }
+        ensures answers { Answers self.old.heard part.now result self.new.heard }
+        ensures reader { self.new.ends.from ≡ self.old.ends.from }
+        ensures wrote { Wrote result (W.contents self.old.ends.to) (W.contents self.new.ends.to) (printed_for self.old.heard.reader part.now) }
+    {
+        // Where nothing is to be told the count stays, and a count is never more than the largest.
+        prove!(self.heard.taken <= u64::MAX);
+        let mut rest = part;
+        while !rest.is_empty() {
+            let fed = session::feed(self.heard.reader, rest, out);
+            self.heard.reader = fed.reader;
+            self.write(&out[..fed.written])?;
+            rest = &rest[fed.used..];
+        }
+        Ok(())
+    }
+
+    // Hears what a read has answered: the end of the input, a failure, or a part, which is at the front of input. Answers whether the session goes on.
+    fn hear(
+        &mut self,
+        got: io::Result<usize>,
+        input: &[u8],
+        out: &mut [u8],
+    ) -> Result<bool, Failure>
+        requires { answer_room ≤ length out.old }
+        ensures hears { Hears self.old.heard got input.now result self.new.heard }
+        ensures reader { self.new.ends.from ≡ self.old.ends.from }
+        ensures wrote { let part = take (clamp_len got (length input.now)) input.now in
+            HearsWriting result (W.contents self.old.ends.to) (W.contents self.new.ends.to) (printed_for self.old.heard.reader part) }
+    {
+        if is_end(got) {
+            return Ok(false);
+        }
+        let count = got.unwrap_or(0).min(input.len());
+        if count == 0 {
+            return Err(Failure::ReadFailed);
+        }
+        let bytes = self.heard.bytes.checked_add(count as u64);
+        self.heard.bytes = bytes.ok_or(Failure::TooMuch)?;
+        self.tell(&input[..count], out)?;
+        Ok(true)
+    }
+
+    // Reads and answers, part by part, until the input has ended. Every program here ends: this one where no number could count its bytes.
+    fn converse(&mut self, input: &mut [u8], out: &mut [u8]) -> Result<(), Failure>
+        requires room { answer_room ≤ length out.old }
+        requires begins { self.old.heard ≡ none_heard }
+        ensures { (all : List ℕ) × HeardWhole result self.new.heard all
+            × Gave (length input.old) result (R.remaining self.old.ends.from) (R.remaining self.new.ends.from) all
+            × HeardWriting result (W.contents self.old.ends.to) (W.contents self.new.ends.to) all }
+    {
+        loop {
+            let got = self.ends.read_part(input);
+            let goes_on = self.hear(got, input, out)?;
+            if !goes_on {
+                return Ok(());
+            }
+        }
+    }
+
+    // The end of an input that was heard. Where it has ended, a last line that lacks its newline is answered; else what is held of a line is never run.
+    // What was heard is a parameter, and no ? of the caller's, so that the contract can say that a failure stays as it is and nothing more is written.
+    fn conclude(&mut self, heard: Result<(), Failure>, out: &mut [u8]) -> Result<Notes, Failure>
+        requires { answer_room ≤ length out.old }
+        ensures concludes { Concludes heard result
+            × ((all : List ℕ) → HeardWhole heard self.old.heard all → Spoken result self.new.heard all) }
+        ensures reader { self.new.ends.from ≡ self.old.ends.from }
+        ensures wrote { ConcludesWriting heard result (W.contents self.old.ends.to) (W.contents self.new.ends.to) (printed_at_end self.old.heard.reader) }
+    {
+        heard?;
+        let finished = session::finish(self.heard.reader, out);
+        self.write(&out[..finished.written])?;
+        Ok(finished.notes)
+    }
+
+    // A whole session, and what was noted of its lines.
+    fn speak(&mut self, input: &mut [u8], out: &mut [u8]) -> Result<Notes, Failure>
+        requires room { answer_room ≤ length out.old }
+        requires begins { self.old.heard ≡ none_heard }
+        ensures { (all : List ℕ) × Spoken result self.new.heard all
+            × Gave (length input.old) result (R.remaining self.old.ends.from) (R.remaining self.new.ends.from) all
+            × SpokenWriting result (W.contents self.old.ends.to) (W.contents self.new.ends.to) all }
+    {
+        let heard = self.converse(input, out);
+        self.conclude(heard, out)
+    }
 }
 
 // Whether descriptor 3 is open for writing. The system tells how it was opened in a line in octal, of whose last digit the lower two bits are 0 where it
 // is for reading alone.
 fn is_report_wanted<R: Files + Alloc>(rt: &R) -> io::Result<bool> {
     let about = fs::read_to_string(rt, ABOUT_REPORT)?;
-    for line in about.lines() {
-        if line.starts_with("flags:") {
-            return Ok(!line.ends_with('0') && !line.ends_with('4'));
-        }
-    }
-    Ok(false)
+    let flags = about.lines().find(|line| line.starts_with("flags:"));
+    Ok(flags.is_some_and(|line| !line.ends_with('0') && !line.ends_with('4')))
 }
 
 // A complete end, in one line: why the first unreadable line is not readable, how many are not, how many lines there were, and the number of the first;
@@ -289,40 +219,32 @@ fn report<R: Files + Alloc>(rt: &R, notes: Notes) -> io::Result<()> {
 }
 
 // Whether a write failed since nobody reads the answers any more.
-fn is_reader_gone(how: u32, failure: Option<io::Error>) -> bool
-    ensures { result ≡ true ↔ ((how ≡ write_failed) × IsSomeAnd failure (λ e. error_kind e ≡ BrokenPipe)) }
+fn is_reader_gone(why: Failure, cause: Option<io::Error>) -> bool
+    ensures { IsTrue result ↔ ((why ≡ Failure.WriteFailed) × IsSomeAnd cause (λ e. error_kind e ≡ BrokenPipe)) }
 {
-    match failure {
-        Some(error) => how == WRITE_FAILED && error.kind() == ErrorKind::BrokenPipe,
-        None => false,
-    }
+    why == Failure::WriteFailed && cause.is_some_and(|e| e.kind() == ErrorKind::BrokenPipe)
 }
 
 fn main(rt: HostRuntime) -> ExitCode {
-    let mut ends = Ends::new(&rt, rt.stdin(), rt.stdout());
+    let mut talk = Talk::new(Ends::new(&rt, rt.stdin(), rt.stdout()));
     let mut input = [0u8; 65536];
     let mut out = [0u8; 65536];
-    let end = speak(&mut ends, &mut input, &mut out);
-    let failure = ends.failure();
-    if end.how == ENDED {
-        // Where descriptor 3 is not open, nobody asks for the report.
-        let _ = report(&rt, end.notes);
-        return ExitCode::SUCCESS;
-    }
-    if is_reader_gone(end.how, failure) {
+    let why = match talk.speak(&mut input, &mut out) {
+        Ok(notes) => {
+            // Where descriptor 3 is not open, nobody asks for the report.
+            let _ = report(&rt, notes);
+            return ExitCode::SUCCESS;
+        }
+        Err(why) => why,
+    };
+    let cause = talk.ends.failure();
+    if is_reader_gone(why, cause) {
         return ExitCode::from(READER_GONE);
     }
-    let what = if end.how == READ_FAILED {
-        "standard input could not be read"
-    } else if end.how == WRITE_FAILED {
-        "the answers could not be written"
-    } else {
-        "the input has more bytes than can be counted"
-    };
     // A sentence that cannot be shown changes nothing.
-    let _ = match failure {
-        Some(why) => eprintln!(rt; "session: {what}: {why}"),
-        None => eprintln!(rt; "session: {what}"),
+    let _ = match cause {
+        Some(cause) => eprintln!(rt; "session: {why}: {cause}"),
+        None => eprintln!(rt; "session: {why}"),
     };
     ExitCode::FAILURE
 }

@@ -94,10 +94,10 @@ fn over_memory(rt: HostRuntime) {
     let mut input = [0u8; 100];
     let mut out = [0u8; 2000];
     let mut taken = Vec::new(rt.alloc());
-    let mut ends = Ends::new(&rt, INPUT, &mut taken);
-    let end = speak(&mut ends, &mut input, &mut out);
-    assert_eq!(rt; end.how, ENDED);
-    assert!(rt; ends.failure().is_none());
+    let mut talk = Talk::new(Ends::new(&rt, INPUT, &mut taken));
+    let spoken = talk.speak(&mut input, &mut out);
+    assert_eq!(rt; spoken.err(), None);
+    assert!(rt; talk.ends.failure().is_none());
     assert!(rt; taken.as_slice() == ANSWERS);
 }
 
@@ -107,7 +107,7 @@ fn over(
     fails: bool,
     taken: &mut Vec<u8, Global>,
     room: usize,
-) -> (u32, Option<io::Error>) {
+) -> (Option<Failure>, Option<io::Error>) {
     let mut input = [0u8; 100];
     let mut out = [0u8; 2000];
     let from = Uneasy {
@@ -120,9 +120,9 @@ fn over(
         room,
         turn: 0,
     };
-    let mut ends = Ends::new(waits, from, to);
-    let end = speak(&mut ends, &mut input, &mut out);
-    (end.how, ends.failure())
+    let mut talk = Talk::new(Ends::new(waits, from, to));
+    let spoken = talk.speak(&mut input, &mut out);
+    (spoken.err(), talk.ends.failure())
 }
 
 #[test]
@@ -131,9 +131,9 @@ fn over_uneasy_ends(rt: HostRuntime) {
         count: Cell::new(0),
     };
     let mut taken = Vec::new(rt.alloc());
-    let (how, failure) = over(&waits, false, &mut taken, 100);
-    assert_eq!(rt; how, ENDED);
-    assert!(rt; failure.is_none());
+    let (why, cause) = over(&waits, false, &mut taken, 100);
+    assert_eq!(rt; why, None);
+    assert!(rt; cause.is_none());
     assert!(rt; taken.as_slice() == ANSWERS);
     // once for each of five reads, and twice for each of five writes
     assert_eq!(rt; waits.count.get(), 15);
@@ -145,9 +145,9 @@ fn a_failed_read_is_no_end(rt: HostRuntime) {
         count: Cell::new(0),
     };
     let mut taken = Vec::new(rt.alloc());
-    let (how, failure) = over(&waits, true, &mut taken, 100);
-    assert_eq!(rt; how, READ_FAILED);
-    assert!(rt; matches!(failure, Some(e) if e.kind() == ErrorKind::ConnectionReset));
+    let (why, cause) = over(&waits, true, &mut taken, 100);
+    assert_eq!(rt; why, Some(Failure::ReadFailed));
+    assert!(rt; matches!(cause, Some(e) if e.kind() == ErrorKind::ConnectionReset));
     assert!(rt; taken.as_slice() == &ANSWERS[..13]);
 }
 
@@ -157,8 +157,8 @@ fn a_failed_write_is_the_last(rt: HostRuntime) {
         count: Cell::new(0),
     };
     let mut taken = Vec::new(rt.alloc());
-    let (how, failure) = over(&waits, false, &mut taken, 8);
-    assert_eq!(rt; how, WRITE_FAILED);
-    assert!(rt; matches!(failure, Some(e) if e.kind() == ErrorKind::StorageFull));
+    let (why, cause) = over(&waits, false, &mut taken, 8);
+    assert_eq!(rt; why, Some(Failure::WriteFailed));
+    assert!(rt; matches!(cause, Some(e) if e.kind() == ErrorKind::StorageFull));
     assert!(rt; taken.as_slice() == &ANSWERS[..8]);
 }

@@ -76,7 +76,8 @@ impl<'a, C: Clock, R: Read, W: Write> Ends<'a, C, R, W> {
         Err(error)
     }
 
-    // Writes the bytes, and answers how many of them were taken: fewer than all only where a write failed.
+    // Writes the bytes, and answers how many of them were taken: fewer than all only where a write failed. The answer is a count, so it counts, and does
+    // not walk down what is left of the bytes.
     pub fn write_out(&mut self, bytes: &[u8]) -> usize
         ensures counts { IsPrefixLen result bytes.now }
         ensures reader { self.new.from ≡ self.old.from }
