@@ -1,7 +1,7 @@
 -- The checks of each call agree with the refusals that the view names: check by check, what the columns say is what the view says. Assumes nothing.
 use Rattle.obeys.proofs.Basis.{◌∙◌, ◌≡◌, ap, refl, subst, sym, false, true, Option·none-ne-some, Option·some-injective, List, ◌<◌, ◌≤◌, ℕ, arith, ltb, length, leb-false, leb-true}
 use Rattle.obeys.proofs.Basis.{ltb-false, ltb-true, count, has, lowest_free, word_places, count_le, free_below, free_lacks, Call, by, sweep, is_open, Strong, Weak, AttachInput, AttachOutput, Channel, Consume, ConsumeUntil, Detach, End}
-use Rattle.obeys.proofs.Basis.{Get, NewThread, Put, Set, State, Which, Earliest, Latest, Named, never, Found, is_found, true_not_false, place_of, state, in_use, channel_places, connection_places, item_places, thread_places, OptionOf, Some, None, found_at}
+use Rattle.obeys.proofs.Basis.{Get, NewThread, Put, Set, State, Which, Earliest, Latest, Named, never, Found, is_found, true_not_false, place_of, state, in_use, channel_places, connection_places, item_places, thread_places, OptionOf, Some, None}
 use Rattle.obeys.proofs.Basis.{attached, connection_at, is_input, is_living, is_output, items_in, leads_to, used_below, leaving, channel_exists, checks, connection_owned, connection_reads, connection_writes, item_fits, item_found, item_open}
 use Rattle.obeys.proofs.Basis.{place_free, slice_long, sought_by, thread_lives, time_visible, timestamp_absent, which_given, strong_bound, visible_time, weak_bound, Desk, FreeChannel, FreeConnection, FreeThread, Listed, Lowest}
 use Rattle.obeys.proofs.Basis.{desk_full, input_from, named_never, no_channel, no_input, no_output, no_thread, not_its_own, not_open, nothing_unseen, output_to, rule, slice_short, state_on, table_full, taken, too_early}

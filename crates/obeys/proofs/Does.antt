@@ -1,6 +1,6 @@
 -- Each accepted call does what the view says, by the law of its effect, and so does each call, by the agreement of its checks. Assumes nothing.
-use Rattle.obeys.proofs.Basis.{[], ◌<◌, ◌∷◌, ◌≡◌, AttachInput, AttachOutput, BoundOf, Call, Channel, Consume, ConsumeUntil, Consumed, Desk, DeskDoes, Option, Some, None, found_at}
-use Rattle.obeys.proofs.Basis.{DeskInOrder, Detach, End, Found, Get, Holds, List, NewThread, Passed, Put, Row, Set, View, Which, adopted, OptionOf, Some, None, found_at}
+use Rattle.obeys.proofs.Basis.{[], ◌<◌, ◌∷◌, ◌≡◌, AttachInput, AttachOutput, BoundOf, Call, Channel, Consume, ConsumeUntil, Consumed, Desk, DeskDoes, Some, None}
+use Rattle.obeys.proofs.Basis.{DeskInOrder, Detach, End, Found, Get, Holds, List, NewThread, Passed, Put, Row, Set, View, Which, adopted, OptionOf, Some, None}
 use Rattle.obeys.proofs.Basis.{and_left, and_right, ap, arith, attached, becomes_open, bool_cases, bound_of, by, channel_places, checks, connection_at}
 use Rattle.obeys.proofs.Basis.{connection_places, count, done, effect, false, fewer_free, found-holds, found_told, free_channel, free_connection, free_thread}
 use Rattle.obeys.proofs.Basis.{handed_back, has, in_use-has, input_from, is_open_lem, is_unseen_lem, is_found, is_input, is_open, is_output, is_pending, is_unseen_at}

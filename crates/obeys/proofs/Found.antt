@@ -1,5 +1,5 @@
 -- What a get finds is what the view says that it takes: a timestamp that fits has its place, and the best place has the timestamp. Assumes nothing.
-use Rattle.obeys.proofs.Basis.{◌∙◌, ◌≡◌, ap, refl, sym, true, ◌<◌, ℕ, arith, eq-eqb, eqb-true, ltb-false, is_pending, is_unseen, Unseen, Which, Earliest, Latest, Named, Row, is_wanted, is_unseen_at, item_places, sought_by, Option, Some, None, found_at}
+use Rattle.obeys.proofs.Basis.{◌∙◌, ◌≡◌, ap, refl, sym, true, ◌<◌, ℕ, arith, eq-eqb, eqb-true, ltb-false, is_pending, is_unseen, Unseen, Which, Earliest, Latest, Named, Row, is_wanted, is_unseen_at, item_places, sought_by, Some, None, found_at}
 use Rattle.obeys.proofs.Basis.{Desk, connection_at, is_input, leads_to, timestamp_at, TakesUnseen, state_on, DeskInOrder, view_of, is_unseen_lem, Sought, sought-found, sought_some, seen_at, at_seen}
 use Rattle.obeys.proofs.Lookup.{state_view}
 

@@ -1,6 +1,6 @@
 -- A line's turn, from what the functions promise that read it, make its call and write its answer. Assumes nothing.
 use Prim.Native.Nat.{ℕ, ◌+◌, ◌≤◌, zero-le}
-use mathlib.Core.Path.{◌≡◌, refl, sym}
+use mathlib.Core.Path.{◌≡◌, refl}
 use mathlib.Core.Bool.{Bool, true, false, cond}
 use mathlib.Core.List.{List, []}
 use lib.Dec.{eqb}
