@@ -14,7 +14,7 @@ pub use noting::counted;
 use rows::Answer;
 use text::{ANSWER_ROOM, MOST_TICKETS};
 
-// The code of a line that is not readable.
+// The code of a line that is not readable, a number as in every answer: a host in C reads answers too.
 const UNREADABLE: u32 = 99;
 
 // A line with one byte more than the longest is overlong, so no more of a line is kept.

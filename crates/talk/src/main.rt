@@ -102,7 +102,7 @@ impl<'a, C: Clock, R: Read, W: Write> Talk<'a, C, R, W> {
     }
 
     // Answers one part of the input. What the answers to a piece of it leave of out may be too little for the next answer: so each piece's answers are
-    // written away before the rest of the part is fed.
+    // written away before the rest of the part is fed. The buffers stay parameters: a part of the one is lent while the session changes.
     fn tell(&mut self, part: &[u8], out: &mut [u8]) -> Result<(), Failure>
         requires { answer_room ≤ length out.old }
         ensures answers { Answers self.old.heard part.now result self.new.heard }

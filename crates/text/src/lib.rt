@@ -97,7 +97,7 @@ fn has_room(at: usize, places: usize, count: usize, held: usize) -> bool
 
 // Writes the line of an answer into out from `at` on, with the first `count` tickets, and answers the place after it.
 // Where it might not fit, or the tickets are not there, it writes nothing and answers `at`: so `count` stays beside `tickets`, since a slice of
-// just these would ask its caller for them.
+// just these would ask its caller for them; and its caller goes on in one buffer, so `at` stays beside `out`.
 pub fn write_answer(
     out: &mut [u8],
     at: usize,

@@ -1,4 +1,4 @@
-// A u64 as a set of 64 places.
+// A u64 as a set of 64 places. A host in C reads the words of the desk as numbers, so that these are functions of a number, and no type has them.
 #![tactic(auto)]
 
 ghost use Rattle.std.specs.Prelude.{◌≡◌, cond};
