@@ -1,6 +1,6 @@
 -- The outcome of a call, check by check: the first that fails refuses it, and where all hold it is accepted. Assumes nothing.
-use mathlib.Core.Path.{◌≡◌, refl, sym, ap, ◌∙◌}
-use mathlib.Core.Bool.{Bool, true, false, cond}
+use mathlib.Core.Path.{◌≡◌, sym, ◌∙◌}
+use mathlib.Core.Bool.{true}
 use mathlib.Core.List.{List, [], ◌∷◌}
 use Prim.Native.Nat.{ℕ}
 use Rattle.std.proofs.Common.{Result, Ok, Err}
@@ -11,7 +11,7 @@ use Rattle.rows.proofs.Checks.{Held, Pass, held_by, passed}
 use Rattle.rows.specs.declared.Answer.{Answer}
 use Rattle.rows.specs.declared.Refusal.{Refusal}
 use Rattle.rows.specs.declared.Told.{Told}
-use Rattle.rows.specs.Answers.{Check, answered, accepted, passes, decided, refused_by}
+use Rattle.rows.specs.Answers.{Check, answered, accepted, passes, decided}
 use Rattle.calls.specs.Calls.{Call}
 use Rattle.desk.specs.declared.Desk.{Desk}
 use Rattle.desk.specs.declared.Next.{Next}

@@ -1,5 +1,5 @@
 -- What each bound is taken over, by the contracts of its parts. Assumes nothing.
-use mathlib.Core.Path.{◌≡◌, ap, ◌∙◌}
+use mathlib.Core.Path.{ap, ◌∙◌}
 use Prim.Native.Nat.{ℕ, min}
 use Rattle.tables.specs.Times.{least_for}
 use Rattle.desk.specs.Desk.{connection_at}

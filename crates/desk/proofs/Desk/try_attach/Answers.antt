@@ -1,5 +1,4 @@
 -- Check by check the code's are 01's, which attach input has as attach output has them; the stores are a connection attached. Assumes nothing.
-use mathlib.Core.Path.{refl}
 use Rattle.desk.specs.Calls.{checks}
 use Rattle.desk.proofs.Outcome.{done, on, out}
 use Rattle.desk.proofs.Owned.{used_inside}

@@ -1,5 +1,4 @@
 -- Check by check the code's are 01's, and the one store is the effect. Assumes nothing.
-use mathlib.Core.Path.{refl}
 use Rattle.desk.specs.Calls.{checks, effect, step, told}
 use Rattle.desk.proofs.Outcome.{done, on, out}
 use Rattle.desk.proofs.Desk.try_channel.Goals as goal

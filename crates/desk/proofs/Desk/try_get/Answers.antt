@@ -1,14 +1,14 @@
 -- Check by check the code's are 01's, and what is told is what the search found. 3 says that the connection is one of the table's. Assumes nothing.
 use mathlib.Core.Path.{◌≡◌, refl, sym, ap, ◌∙◌}
 use Prim.Native.Nat.{ℕ}
-use Rattle.std.proofs.Common.{Option, Some, None, Err, []}
+use Rattle.std.proofs.Common.{Option, Some, Err, []}
 use Rattle.calls.specs.declared.Which.{Which}
 use Rattle.rows.specs.declared.Refusal.TheVariants.{NothingUnseen}
 use Rattle.rows.specs.declared.Told.{Told}
 use Rattle.rows.specs.Answers.{tells}
 use Rattle.rows.specs.declared.Connection.{Connection}
 use Rattle.rows.specs.declared.Found.{Found}
-use Rattle.rows.specs.Choices.{is_found, place_found, timestamp_found}
+use Rattle.rows.specs.Choices.{is_found, place_found}
 use Rattle.tables.specs.Search.{sought}
 use Rattle.desk.specs.declared.Desk.{Desk}
 use Rattle.desk.specs.Desk.{connection_at, ticket_at}

@@ -1,5 +1,4 @@
 -- Check by check the code's are 01's, and the stores are a thread adopted. Assumes nothing.
-use mathlib.Core.Path.{refl}
 use Rattle.desk.specs.Calls.{adopted, checks, effect, step, told}
 use Rattle.desk.proofs.Outcome.{done, on, out}
 use Rattle.desk.proofs.Desk.try_new_thread.Goals as goal

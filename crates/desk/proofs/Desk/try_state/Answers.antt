@@ -1,13 +1,11 @@
 -- Check by check the code's are 01's, and the value is the state's number. Assumes nothing.
 use mathlib.Core.Path.{◌≡◌, ap, ◌∙◌}
-use mathlib.Core.Bool.{Bool, true, false, cond}
 use Prim.Native.Nat.{ℕ}
-use lib.Dec.{ltb}
-use Rattle.std.proofs.Common.{Option, Some, None}
+use Rattle.std.proofs.Common.{Option}
 use Rattle.calls.specs.declared.State.{State}
 use Rattle.calls.specs.States.{state_number}
 use Rattle.rows.specs.declared.Connection.{Connection}
-use Rattle.rows.specs.Answers.{accepted, decided, tells}
+use Rattle.rows.specs.Answers.{accepted, tells}
 use Rattle.rows.specs.States.{place_or_none, state_of}
 use Rattle.tables.specs.Seen.{place_if_any, place_of, state}
 use Rattle.desk.specs.declared.Desk.{Desk}

@@ -1,6 +1,6 @@
 -- One check decides, 12, whose refusal tells the number of items to hand back; where it holds, the columns are those that the items below the bound have
 -- left, with the marks raised. Assumes nothing.
-use mathlib.Core.Path.{◌≡◌, refl, ap, ap₂, ◌∙◌}
+use mathlib.Core.Path.{◌≡◌, ap, ap₂, ◌∙◌}
 use mathlib.Core.Bool.{false}
 use mathlib.Core.List.{List}
 use Prim.Native.Nat.{ℕ}

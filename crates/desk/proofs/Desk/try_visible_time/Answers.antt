@@ -1,7 +1,7 @@
 -- The one check is 1, and the time is the visible time. Assumes nothing.
 use mathlib.Core.Path.{ap}
 use Prim.Native.Nat.{ℕ}
-use Rattle.rows.specs.Answers.{accepted, decided, tells}
+use Rattle.rows.specs.Answers.{accepted, tells}
 use Rattle.desk.specs.Questions.{question_checks, question_told, reply}
 use Rattle.desk.proofs.Outcome.{done_asking, on_asking, out_asking}
 use Rattle.desk.proofs.Desk.try_visible_time.Goals as goal

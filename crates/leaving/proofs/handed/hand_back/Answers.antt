@@ -1,7 +1,6 @@
 -- After each turn the first item's ticket is written and its place is out: writing the tickets that are left, from there on, still gives the whole.
 -- Assumes nothing.
-use mathlib.Core.Path.{◌∙◌, refl}
-use native.Mathlib.Omega.{arith}
+use mathlib.Core.Path.{◌∙◌}
 use Rattle.leaving.proofs.Tickets.{handed_back_lem, handed-done, handed_short, handed-turn}
 use Rattle.leaving.proofs.handed.hand_back.Goals as goal
 

@@ -1,5 +1,4 @@
 use mathlib.Core.Path.{◌≡◌}
-use lib.ListN.{length}
 use Rattle.leaving.proofs.Tickets.{handed}
 use Rattle.leaving.proofs.handed.hand_back.Given as goal
 
