@@ -7,7 +7,8 @@ use rows::sizes::{CHANNELS, ITEMS};
 use tables::columns::{Held, Tickets, Timestamps, at};
 use tables::search::choose;
 
-// The lowest channel that holds an item in one of the places; the number of channels where none does.
+// The lowest channel that holds an item in one of the places; the number of channels where none does. An Option would want a branch here and in
+// the two below that no call takes, since a ticket is looked for only while items are left.
 fn first_channel(held: &Held, places: u64) -> u32
     ensures { result ≡ first_channel held.now places }
 {

@@ -69,7 +69,7 @@ pub fn except(a: u64, b: u64) -> u64
     a & !b
 }
 
-// The lowest place in the word; the number of places where there is none.
+// The lowest place in the word; the number of places where there is none, as the library has it.
 pub fn lowest(word: u64) -> u32
     ensures { result ≡ lowest word }
 {
