@@ -63,16 +63,17 @@ unfolding ended freed unattached
 ended_is d thread owns is lives = rw (lives, is, owns, none_left (owned_by d thread))
 
 -- attach, from what was read: a word joins where the connection is of its direction
-pub attached_is : (d : Desk) (reads : Bool) (thread channel mark : ℕ) {place own joined inputs outputs : ℕ} → own ≡ owned_by d thread
+pub attached_is : (d : Desk) (reads : Bool) (thread channel mark : ℕ) {place own joined time inputs outputs : ℕ} → own ≡ owned_by d thread
     → place ≡ free_connection d
     → joined ≡ with own place
+    → time ≡ mark
     → inputs ≡ cond reads (with d.inputs place) d.inputs
     → outputs ≡ cond (not reads) (with d.outputs place) d.outputs
-    → ◌≡◌ {A = Desk} (with_connections d (set d.owned thread joined) outputs (set d.leads place channel) inputs (set d.marks place mark) d.opened d.consumed)
+    → ◌≡◌ {A = Desk} (with_connections d (set d.owned thread joined) outputs (set d.leads place channel) inputs (set d.marks place time) d.opened d.consumed)
     (attached_to d reads thread channel mark)
 unfolding attached_to
-attached_is d true thread channel mark owns free joins reading writing = rw (joins, reading, writing, owns, free)
-attached_is d false thread channel mark owns free joins reading writing = rw (joins, reading, writing, owns, free)
+attached_is d true thread channel mark owns free joins timed reading writing = rw (joins, timed, reading, writing, owns, free)
+attached_is d false thread channel mark owns free joins timed reading writing = rw (joins, timed, reading, writing, owns, free)
 
 -- ---- what was read of a connection
 

@@ -1,7 +1,6 @@
 // The checks, by their codes. Each call asks for its own in the order of document 01, and the first that fails refuses it.
-ghost use Rattle.std.specs.Prelude.{[], ◌∷◌};
 ghost use Rattle.rows.specs.Checks.{Checked};
-ghost use Rattle.desk.specs.Calls.{channel_exists, connection_owned, connection_reads, connection_writes, item_fits, item_open, place_free, slice_long, thread_lives, time_visible, timestamp_absent, timestamp_given, which_given};
+ghost use Rattle.desk.specs.Calls.{channel_exists, connection_owned, connection_reads, connection_writes, item_fits, place_free, thread_lives, time_visible, timestamp_absent, timestamp_given, which_given};
 ghost use Rattle.desk.specs.Questions.{connection_exists};
 
 use crate::Desk;
@@ -55,7 +54,7 @@ impl Desk {
         )
     }
 
-    // 4
+    // 4, one check for each direction, so that a call says which one it needs
     pub(crate) fn connection_reads(&self, connection: u32) -> Result<(), Refusal>
         ensures { Checked (connection_reads self.now connection) result }
     {

@@ -1,5 +1,6 @@
 // The calls on connections: attach input, attach output, detach.
-ghost use Rattle.std.specs.Prelude.{◌≡◌};
+ghost use Rattle.std.specs.Prelude.{◌≡◌, is_some};
+ghost use Rattle.std.specs.Option.{unwrap_or};
 ghost use Rattle.calls.specs.Calls.{attach_input, attach_output, detach};
 ghost use Rattle.rows.specs.Answers.{tells};
 ghost use Rattle.desk.specs.Calls.{attached_to, came_to, checks, free_connection, outcome, step, unattached};
@@ -15,14 +16,14 @@ impl Desk {
         ensures { result ≡ step self (attach_input thread channel) }
     {
         let mark = self.visible(thread);
-        let answer = Answer::from(self.try_attach(thread, channel, true, mark));
+        let answer = Answer::from(self.try_attach(thread, channel, Some(mark)));
         Next { answer, desk: self }
     }
 
     pub fn attach_output(mut self, thread: u32, channel: u32) -> Next
         ensures { result ≡ step self (attach_output thread channel) }
     {
-        let answer = Answer::from(self.try_attach(thread, channel, false, 0));
+        let answer = Answer::from(self.try_attach(thread, channel, None));
         Next { answer, desk: self }
     }
 
@@ -33,15 +34,10 @@ impl Desk {
         Next { answer, desk: self }
     }
 
-    // A new connection in the lowest free place: an input with this mark, or an output.
-    fn try_attach(
-        &mut self,
-        thread: u32,
-        channel: u32,
-        reads: bool,
-        mark: u32,
-    ) -> Result<Told, Refusal>
-        ensures { came_to result self.new ≡ outcome self.old (checks self.old (attach_output thread channel)) (tells (free_connection self.old) mark) (attached_to self.old reads thread channel mark) }
+    // A new connection in the lowest free place: an input with this mark, or, where none is given, an output.
+    fn try_attach(&mut self, thread: u32, channel: u32, mark: Option<u32>) -> Result<Told, Refusal>
+        ensures { let given = unwrap_or mark 0 in
+            came_to result self.new ≡ outcome self.old (checks self.old (attach_output thread channel)) (tells (free_connection self.old) given) (attached_to self.old (is_some mark) thread channel given) }
     {
         self.thread_lives(thread)?;
         self.channel_exists(channel)?;
@@ -50,12 +46,13 @@ impl Desk {
         let own = at(&self.owned, thread);
         self.owned[thread as usize] = words::with(own, place);
         self.leads[place as usize] = channel;
-        self.marks[place as usize] = mark;
-        self.inputs = words::with_if(reads, self.inputs, place);
-        self.outputs = words::with_if(!reads, self.outputs, place);
+        let time = mark.unwrap_or(0);
+        self.marks[place as usize] = time;
+        self.inputs = words::with_if(mark.is_some(), self.inputs, place);
+        self.outputs = words::with_if(mark.is_none(), self.outputs, place);
         Ok(Told {
             value: place as u64,
-            time: mark,
+            time,
         })
     }
 

@@ -40,7 +40,8 @@ pub struct Desk {
     pub tickets: Tickets,
 }
 
-// The answer to a call, and the desk after it. Each by-value call makes it in two lines around the call in place; as a closure it would be as long.
+// The answer to a call, and the desk after it. Each by-value call takes `mut self` and makes it around the call in place: the form that document 01
+// names for them.
 #[repr(C)]
 #[derive(Clone, Copy)]
 pub struct Next {

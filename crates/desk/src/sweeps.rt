@@ -1,7 +1,7 @@
 // The two sweeps.
 ghost use Rattle.std.specs.Prelude.{◌≡◌};
 ghost use Rattle.calls.specs.Calls.{sweep};
-ghost use Rattle.desk.specs.Calls.{came_to, leaving, left, slice_after, step};
+ghost use Rattle.desk.specs.Calls.{came_to, left, slice_after, step};
 
 use crate::{Desk, Next};
 use calls::Bound;

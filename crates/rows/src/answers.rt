@@ -12,12 +12,12 @@ pub fn needs(holds: bool, refusal: Refusal) -> Result<(), Refusal>
     if holds { Ok(()) } else { Err(refusal) }
 }
 
-impl Refusal {
-    // The code by which document 01 answers the refusal.
-    pub fn code(self) -> u32
-        ensures { result ≡ code_of self }
-    {
-        match self {
+// The code by which document 01 answers the refusal.
+impl From<Refusal> for u32 {
+    ghost from_gives = { λ refusal code. code ≡ code_of refusal };
+
+    fn from(refusal: Refusal) -> u32 {
+        match refusal {
             Refusal::NoThread => 1,
             Refusal::NoChannel => 2,
             Refusal::NoConnection => 3,
@@ -32,7 +32,9 @@ impl Refusal {
             Refusal::SliceTooShort(_) => 12,
         }
     }
+}
 
+impl Refusal {
     // What a refusal tells beside its code.
     pub fn value(self) -> u64
         ensures { result ≡ value_of self }
@@ -55,7 +57,7 @@ impl From<Result<Told, Refusal>> for Answer {
                 time: told.time,
             },
             Err(refusal) => Answer {
-                code: refusal.code(),
+                code: u32::from(refusal),
                 value: refusal.value(),
                 time: 0,
             },

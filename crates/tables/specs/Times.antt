@@ -50,3 +50,7 @@ least_for Strong inputs connections timestamps = least_awaited inputs connection
 unfoldable pub least_from : List ℕ → ℕ → ℕ → ℕ
 least_from timestamps places mark =
     smallest item_places (λ p. has places p && leb mark (at item_places timestamps p)) (at item_places timestamps)
+
+-- the smallest of the times that stand in the places of a word below n: what the code of the virtual times and of the keep times shares
+unfoldable pub least_among : ℕ → ℕ → (ℕ → ℕ) → ℕ
+least_among n word time = smallest n (has word) time

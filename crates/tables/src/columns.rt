@@ -25,7 +25,8 @@ pub type Timestamps = [u32; rows::sizes::ITEMS as usize];
 
 pub type Tickets = [u64; rows::sizes::ITEMS as usize];
 
-// What a column has in its places: numbers, or words. A free place holds zeros only.
+// What a column has in its places: numbers, or words. A free place holds zeros only. The library's Default does not say which value it gives, so that no
+// clause could name it.
 pub trait Zeroed: Copy {
     ghost zero: { Self };
 

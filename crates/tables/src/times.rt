@@ -1,31 +1,35 @@
 // The parts of visible time and of the two bounds. Each loop goes over the places of a word, lowest first.
 ghost use Rattle.std.specs.Prelude.{◌≡◌, List, min, ℕ};
 ghost use Rattle.tables.specs.Columns.{at, connection_in, connection_of, connection_places};
-ghost use Rattle.tables.specs.Times.{least_awaited, least_for, least_from, least_keep, least_open, least_time};
+ghost use Rattle.words.specs.Words.{word_places};
+ghost use Rattle.tables.specs.Times.{least_among, least_awaited, least_for, least_from, least_keep, least_open, least_time};
 
 use crate::columns::{Numbers, Seen, Times, Timestamps, at};
 use calls::Bound;
-use rows::sizes::{CONNECTIONS, ITEMS, THREADS};
+use rows::sizes::{CONNECTIONS, ITEMS};
 use rows::times::NEVER;
 
 // The smallest virtual time of the living threads.
 pub fn least_time(living: u64, times: &Times) -> u32
     ensures { result ≡ least_time living times.now }
 {
-    let mut least = NEVER;
-    for thread in words::places(living, THREADS as usize) {
-        least = least.min(at(times, thread));
-    }
-    least
+    least_among(living, times, NEVER)
 }
 
 // The smaller of a time and of the keep times of the input connections.
 pub fn least_keep(inputs: u64, time: u32, marks: &Numbers) -> u32
     ensures { result ≡ min time (least_keep inputs (at connection_places marks.now)) }
 {
+    least_among(inputs, marks, time)
+}
+
+// The smaller of a time and of those that a column has in the places of the word.
+fn least_among<const N: usize>(word: u64, column: &[u32; N], time: u32) -> u32
+    ensures { result ≡ min time (least_among (min N word_places) word (at N column.now)) }
+{
     let mut least = time;
-    for connection in words::places(inputs, CONNECTIONS as usize) {
-        least = least.min(at(marks, connection));
+    for place in words::places(word, N) {
+        least = least.min(at(column, place));
     }
     least
 }

@@ -76,7 +76,7 @@ pub fn lowest(word: u64) -> u32
     u64::trailing_zeros(word)
 }
 
-// The lowest place not in the word; the number of places where all are.
+// The lowest place not in the word; the number of places where all are, as the library has it: that it is none is what 9 asks.
 pub fn lowest_free(word: u64) -> u32
     ensures { result ≡ lowest_free word }
 {
