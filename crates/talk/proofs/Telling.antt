@@ -9,8 +9,7 @@ use lib.Dec.{eqb, ltb}
 use lib.ListN.{length, take, drop, length-append, take-append-drop}
 use lib.Seq.{length-take-le}
 use borrow.Author.Tests.{eqb-false, eqb-true, le-ltb, ltb-false, ne_eqb}
-use Rattle.std.specs.Prelude.{Option, Result, Ok, Err, min}
-use Rattle.std.specs.Result.{result_unwrap_or}
+use Rattle.std.specs.Prelude.{Option, Result, Ok, Err}
 use Rattle.std.specs.Io.KnownBytes.{Appends, Consumes, IsAtEnd, Keeps, ReadConsumes}
 use Rattle.std.proofs.lemmas.List.{nil_from_length, take_min}
 use Rattle.std.proofs.KnownBytes.{Appends-kept, Appends-nil, Appends-trans, Consumes-kept, Consumes-nil, Consumes-trans}
@@ -36,11 +35,6 @@ used_any (byte ∷ bytes) r room enough some = used_some byte bytes r room enoug
 pub clamped_le : {E : Type 0} (got : Result ℕ E) (most : ℕ) → clamp_len got most ≤ most
 clamped_le (Ok n) most = omega arith
 clamped_le (Err e) most = omega arith
-
--- and so many as the code counts
-pub came_is : {E : Type 0} (got : Result ℕ E) (most : ℕ) {count some : ℕ} → some ≡ result_unwrap_or got 0 → count ≡ min some most → clamp_len got most ≡ count
-came_is (Ok n) most is least = sym (least ∙ ap (λ (m : ℕ). min m most) is)
-came_is (Err e) most is least = omega (arith, is, least)
 
 -- some of a part was told: of the reader, and of what is printed, what is left of the part makes what the whole part makes of the first
 pub record Tells (first : Heard) (part : List ℕ) (now : Heard) (rest : List ℕ) (w₀ w : Option (List ℕ)) : Type 0 where

@@ -12,7 +12,7 @@ ghost use Rattle.std.specs.IoError.{error_kind};
 ghost use Rattle.std.specs.declared.io.ErrorKind.TheVariants.{BrokenPipe};
 ghost use Rattle.text.specs.Text.{answer_room};
 ghost use Rattle.session.specs.Stream.{printed_at_end, printed_for};
-ghost use Rattle.talk.specs.Talk.{Answers, Concludes, ConcludesWriting, Gave, HeardWhole, HeardWriting, Hears, HearsWriting, Spoken, SpokenWriting, Writes, Wrote, clamp_len, is_zero, none_heard};
+ghost use Rattle.talk.specs.Talk.{Answers, Concludes, ConcludesWriting, Gave, HeardWhole, HeardWriting, Hears, HearsWriting, Spoken, SpokenWriting, Writes, Wrote, clamp_len, none_heard};
 
 use session::{Notes, Reader};
 use std::alloc::Alloc;
@@ -56,13 +56,6 @@ struct Heard {
     reader: Reader,
     taken: u64,
     bytes: u64,
-}
-
-// Whether a read has answered the end of the input.
-fn is_end(got: io::Result<usize>) -> bool
-    ensures { result ≡ is_zero got }
-{
-    matches!(got, Ok(0))
 }
 
 // A session over two ends, and what was heard of it. Where it fails, that stays: what was read before and how much of the answers was taken.
@@ -134,13 +127,11 @@ impl<'a, C: Clock, R: Read, W: Write> Talk<'a, C, R, W> {
         ensures wrote { let part = take (clamp_len got (length input.now)) input.now in
             HearsWriting result (W.contents self.old.ends.to) (W.contents self.new.ends.to) (printed_for self.old.heard.reader part) }
     {
-        if is_end(got) {
-            return Ok(false);
-        }
-        let count = got.unwrap_or(0).min(input.len());
-        if count == 0 {
-            return Err(Failure::ReadFailed);
-        }
+        let count = match got {
+            Ok(0) => return Ok(false),
+            Ok(read) if !input.is_empty() => read.min(input.len()),
+            _ => return Err(Failure::ReadFailed),
+        };
         let bytes = self.heard.bytes.checked_add(count as u64);
         self.heard.bytes = bytes.ok_or(Failure::TooMuch)?;
         self.tell(&input[..count], out)?;
