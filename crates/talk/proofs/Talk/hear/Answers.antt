@@ -1,5 +1,5 @@
 -- By what the read has answered, arm for arm; a part that came is told, and the session goes on where it was told as whole.
-use Rattle.std.proofs.Common.{◌≡◌, ◌+◌, ◌<◌, Ok, arith, length, min, refl, sym, ◌∙◌, inl, inr}
+use Rattle.std.proofs.Common.{◌≡◌, ◌+◌, ◌<◌, arith, length, min, refl, sym, ◌∙◌, inl, inr}
 use borrow.Author.Tests.{eq-eqb, eqb-false, eqb-true, lt-ltb, ne_eqb}
 use Rattle.std.proofs.lemmas.Result.{err_from_is_err_and}
 use Rattle.session.specs.Notes.{largest_count}
@@ -39,18 +39,16 @@ returns-in_err-self-clause-hears g c =
 pub returns-in_err-tell-clause-hears : goal.returns-in_err-tell-clause-hears
 returns-in_err-tell-clause-hears g c =
     let p = err_from_is_err_and c.from_residual-in_err-tell.result c.from_residual-in_err-tell.ensures.1 in
-    let read : c.in-Ok.read ≡ 0 → ⊥ = rw c.in-Ok.is at c.in-Ok.read-test.1 in
-    let room : length c.args.input.now ≡ 0 → ⊥ = eqb-false _ 0 (sym c.is_empty.ensures ∙ c.if-not-is_empty.true) in
-    let some : c.min-count.result ≡ 0 → ⊥ = omega (arith, read, room, c.min-count.ensures) in
+    let read = rw c.in-Ok.is at c.in-Ok.read-test.1 in
+    let room = eqb-false _ 0 (sym c.is_empty.ensures ∙ c.if-not-is_empty.true) in
     let sum = rw c.in_ok-self.ensures.ok_part at c.checked_add-bytes.ensures in
     let told = c.in_err-tell.ensures.answers in
-    rw c.in-Ok.is (hears_part _ (Ok c.in-Ok.read) _ _ _ _ (ne_eqb _ 0 read) (sym c.min-count.ensures) some (omega (arith, sum.0)) (omega (arith, told.0, sum.1)) (inr (cc (p.1, p.2, told.1), told.2)))
+    hears_part _ _ _ _ _ c.in-Ok.read _ c.in-Ok.is read room c.min-count.ensures (omega (arith, sum.0)) (omega (arith, told.0, sum.1)) (inr (cc (p.1, p.2, told.1), told.2))
 
 pub returns-clause-hears : goal.returns-clause-hears
 returns-clause-hears g c =
-    let read : c.in-Ok.read ≡ 0 → ⊥ = rw c.in-Ok.is at c.in-Ok.read-test.1 in
-    let room : length c.args.input.now ≡ 0 → ⊥ = eqb-false _ 0 (sym c.is_empty.ensures ∙ c.if-not-is_empty.true) in
-    let some : c.min-count.result ≡ 0 → ⊥ = omega (arith, read, room, c.min-count.ensures) in
+    let read = rw c.in-Ok.is at c.in-Ok.read-test.1 in
+    let room = eqb-false _ 0 (sym c.is_empty.ensures ∙ c.if-not-is_empty.true) in
     let sum = rw c.in_ok-self.ensures.ok_part at c.checked_add-bytes.ensures in
     let told = c.in_ok-tell.ensures.answers in
-    rw c.in-Ok.is (hears_part _ (Ok c.in-Ok.read) _ _ _ _ (ne_eqb _ 0 read) (sym c.min-count.ensures) some (omega (arith, sum.0)) (omega (arith, told.0, sum.1)) (inl (refl, told.1, told.2)))
+    hears_part _ _ _ _ _ c.in-Ok.read _ c.in-Ok.is read room c.min-count.ensures (omega (arith, sum.0)) (omega (arith, told.0, sum.1)) (inl (refl, told.1, told.2))
