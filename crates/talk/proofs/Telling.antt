@@ -10,7 +10,6 @@ use lib.ListN.{length, take, drop, length-append, take-append-drop}
 use lib.Seq.{length-take-le}
 use borrow.Author.Tests.{eqb-false, eqb-true, le-ltb, ltb-false, ne_eqb}
 use Rattle.std.specs.Prelude.{Option, Result, Ok, Err, min}
-use Rattle.std.specs.Result.{result_unwrap_or}
 use Rattle.std.specs.Io.KnownBytes.{Appends, Consumes, IsAtEnd, Keeps, ReadConsumes}
 use Rattle.std.proofs.lemmas.List.{nil_from_length, take_min}
 use Rattle.std.proofs.KnownBytes.{Appends-kept, Appends-nil, Appends-trans, Consumes-kept, Consumes-nil, Consumes-trans}
@@ -36,11 +35,6 @@ used_any (byte ∷ bytes) r room enough some = used_some byte bytes r room enoug
 pub clamped_le : {E : Type 0} (got : Result ℕ E) (most : ℕ) → clamp_len got most ≤ most
 clamped_le (Ok n) most = omega arith
 clamped_le (Err e) most = omega arith
-
--- and so many as the code counts
-pub came_is : {E : Type 0} (got : Result ℕ E) (most : ℕ) {count some : ℕ} → some ≡ result_unwrap_or got 0 → count ≡ min some most → clamp_len got most ≡ count
-came_is (Ok n) most is least = sym (least ∙ ap (λ (m : ℕ). min m most) is)
-came_is (Err e) most is least = omega (arith, is, least)
 
 -- some of a part was told: of the reader, and of what is printed, what is left of the part makes what the whole part makes of the first
 pub record Tells (first : Heard) (part : List ℕ) (now : Heard) (rest : List ℕ) (w₀ w : Option (List ℕ)) : Type 0 where
@@ -142,19 +136,21 @@ zero_came (Ok n) most z = omega (arith, eqb-true n 0 z)
 zero_came (Err e) most z = absurd (false≢true z)
 
 -- a part that came, and can be counted, is heard as its answers were taken
-pub hears_part : {E : Type 0} (before : Heard) (got : Result ℕ E) (input : List ℕ) (how : Result Bool Failure) (after : Heard) (count : ℕ)
-    → is_zero got ≡ false
-    → clamp_len got (length input) ≡ count
-    → (count ≡ 0 → ⊥)
+pub hears_part : {E : Type 0} (before : Heard) (got : Result ℕ E) (input : List ℕ) (how : Result Bool Failure) (after : Heard) (read count : ℕ)
+    → got ≡ Ok read
+    → (read ≡ 0 → ⊥)
+    → (length input ≡ 0 → ⊥)
+    → count ≡ min read (length input)
     → before.bytes + count ≤ largest_count
     → after.bytes ≡ before.bytes + count
     → ((how ≡ goes_on) × (after.reader ≡ reader_after before.reader (take count input)) × Taken before.taken (printed_for before.reader (take count input)) after.taken)
     ⊎ ((how ≡ write_failed) × Cut before.taken (printed_for before.reader (take count input)) after.taken)
     → Hears before got input how after
 unfolding Hears
-hears_part before got input how after count end came some few bytes told =
-    let long = length-take-le count input (rw (← came) (clamped_le got (length input))) in
-    rw (came, end, ne_eqb count 0 some, le-ltb largest_count (before.bytes + count) few) (omega (arith, bytes, long), told)
+hears_part before got input how after read count is came room least few bytes told =
+    let some : count ≡ 0 → ⊥ = omega (arith, came, room, least) in
+    let long = length-take-le count input (omega (arith, least)) in
+    rw (is, ← least, ne_eqb read 0 came, ne_eqb count 0 some, le-ltb largest_count (before.bytes + count) few) (omega (arith, bytes, long), told)
 
 -- all that was read was answered, and all its answers were taken
 abbrev pub HeardAll : Heard → List ℕ → Type 0

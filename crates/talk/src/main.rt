@@ -12,7 +12,7 @@ ghost use Rattle.std.specs.IoError.{error_kind};
 ghost use Rattle.std.specs.declared.io.ErrorKind.TheVariants.{BrokenPipe};
 ghost use Rattle.text.specs.Text.{answer_room};
 ghost use Rattle.session.specs.Stream.{printed_at_end, printed_for};
-ghost use Rattle.talk.specs.Talk.{Answers, Concludes, ConcludesWriting, Gave, HeardWhole, HeardWriting, Hears, HearsWriting, Spoken, SpokenWriting, Writes, Wrote, clamp_len, is_zero, none_heard};
+ghost use Rattle.talk.specs.Talk.{Answers, Concludes, ConcludesWriting, Gave, HeardWhole, HeardWriting, Hears, HearsWriting, Spoken, SpokenWriting, Writes, Wrote, clamp_len, none_heard};
 
 use session::{Notes, Reader};
 use std::alloc::Alloc;
@@ -58,11 +58,11 @@ struct Heard {
     bytes: u64,
 }
 
-// Whether a read has answered the end of the input.
-fn is_end(got: io::Result<usize>) -> bool
-    ensures { result ≡ is_zero got }
-{
-    matches!(got, Ok(0))
+// Where answers stand before they are written away: there is room for one at least, so that each piece that is fed is answered in it and none is empty.
+#[derive(Drop)]
+struct Room<'a> {
+    bytes: &'a mut [u8],
+    ghost wide: { answer_room ≤ length bytes.now },
 }
 
 // A session over two ends, and what was heard of it. Where it fails, that stays: what was read before and how much of the answers was taken.
@@ -101,10 +101,9 @@ impl<'a, C: Clock, R: Read, W: Write> Talk<'a, C, R, W> {
         Ok(())
     }
 
-    // Answers one part of the input. What the answers to a piece of it leave of out may be too little for the next answer: so each piece's answers are
+    // Answers one part of the input. What the answers to a piece of it leave of the room may be too little for the next answer: so each piece's answers are
     // written away before the rest of the part is fed. The buffers stay parameters: a part of the one is lent while the session changes.
-    fn tell(&mut self, part: &[u8], out: &mut [u8]) -> Result<(), Failure>
-        requires { answer_room ≤ length out.old }
+    fn tell(&mut self, part: &[u8], out: &mut Room<'_>) -> Result<(), Failure>
         ensures answers { Answers self.old.heard part.now result self.new.heard }
         ensures reader { self.new.ends.from ≡ self.old.ends.from }
         ensures wrote { Wrote result (W.contents self.old.ends.to) (W.contents self.new.ends.to) (printed_for self.old.heard.reader part.now) }
@@ -113,9 +112,9 @@ impl<'a, C: Clock, R: Read, W: Write> Talk<'a, C, R, W> {
         prove!(self.heard.taken <= u64::MAX);
         let mut rest = part;
         while !rest.is_empty() {
-            let fed = session::feed(self.heard.reader, rest, out);
+            let fed = session::feed(self.heard.reader, rest, out.bytes);
             self.heard.reader = fed.reader;
-            self.write(&out[..fed.written])?;
+            self.write(&out.bytes[..fed.written])?;
             rest = &rest[fed.used..];
         }
         Ok(())
@@ -126,21 +125,18 @@ impl<'a, C: Clock, R: Read, W: Write> Talk<'a, C, R, W> {
         &mut self,
         got: io::Result<usize>,
         input: &[u8],
-        out: &mut [u8],
+        out: &mut Room<'_>,
     ) -> Result<bool, Failure>
-        requires { answer_room ≤ length out.old }
         ensures hears { Hears self.old.heard got input.now result self.new.heard }
         ensures reader { self.new.ends.from ≡ self.old.ends.from }
         ensures wrote { let part = take (clamp_len got (length input.now)) input.now in
             HearsWriting result (W.contents self.old.ends.to) (W.contents self.new.ends.to) (printed_for self.old.heard.reader part) }
     {
-        if is_end(got) {
-            return Ok(false);
-        }
-        let count = got.unwrap_or(0).min(input.len());
-        if count == 0 {
-            return Err(Failure::ReadFailed);
-        }
+        let count = match got {
+            Ok(0) => return Ok(false),
+            Ok(read) if !input.is_empty() => read.min(input.len()),
+            _ => return Err(Failure::ReadFailed),
+        };
         let bytes = self.heard.bytes.checked_add(count as u64);
         self.heard.bytes = bytes.ok_or(Failure::TooMuch)?;
         self.tell(&input[..count], out)?;
@@ -148,8 +144,7 @@ impl<'a, C: Clock, R: Read, W: Write> Talk<'a, C, R, W> {
     }
 
     // Reads and answers, part by part, until the input has ended. Every program here ends: this one where no number could count its bytes.
-    fn converse(&mut self, input: &mut [u8], out: &mut [u8]) -> Result<(), Failure>
-        requires room { answer_room ≤ length out.old }
+    fn converse(&mut self, input: &mut [u8], out: &mut Room<'_>) -> Result<(), Failure>
         requires begins { self.old.heard ≡ none_heard }
         ensures { (all : List ℕ) × HeardWhole result self.new.heard all
             × Gave (length input.old) result (R.remaining self.old.ends.from) (R.remaining self.new.ends.from) all
@@ -166,22 +161,20 @@ impl<'a, C: Clock, R: Read, W: Write> Talk<'a, C, R, W> {
 
     // The end of an input that was heard. Where it has ended, a last line that lacks its newline is answered; else what is held of a line is never run.
     // What was heard is a parameter, and no ? of the caller's, so that the contract can say that a failure stays as it is and nothing more is written.
-    fn conclude(&mut self, heard: Result<(), Failure>, out: &mut [u8]) -> Result<Notes, Failure>
-        requires { answer_room ≤ length out.old }
+    fn conclude(&mut self, heard: Result<(), Failure>, out: &mut Room<'_>) -> Result<Notes, Failure>
         ensures concludes { Concludes heard result
             × ((all : List ℕ) → HeardWhole heard self.old.heard all → Spoken result self.new.heard all) }
         ensures reader { self.new.ends.from ≡ self.old.ends.from }
         ensures wrote { ConcludesWriting heard result (W.contents self.old.ends.to) (W.contents self.new.ends.to) (printed_at_end self.old.heard.reader) }
     {
         heard?;
-        let finished = session::finish(self.heard.reader, out);
-        self.write(&out[..finished.written])?;
+        let finished = session::finish(self.heard.reader, out.bytes);
+        self.write(&out.bytes[..finished.written])?;
         Ok(finished.notes)
     }
 
     // A whole session, and what was noted of its lines.
-    fn speak(&mut self, input: &mut [u8], out: &mut [u8]) -> Result<Notes, Failure>
-        requires room { answer_room ≤ length out.old }
+    fn speak(&mut self, input: &mut [u8], out: &mut Room<'_>) -> Result<Notes, Failure>
         requires begins { self.old.heard ≡ none_heard }
         ensures { (all : List ℕ) × Spoken result self.new.heard all
             × Gave (length input.old) result (R.remaining self.old.ends.from) (R.remaining self.new.ends.from) all
@@ -228,7 +221,8 @@ fn is_reader_gone(why: Failure, cause: Option<io::Error>) -> bool
 fn main(rt: HostRuntime) -> ExitCode {
     let mut talk = Talk::new(Ends::new(&rt, rt.stdin(), rt.stdout()));
     let mut input = [0u8; 65536];
-    let mut out = [0u8; 65536];
+    let mut bytes = [0u8; 65536];
+    let mut out = Room { bytes: &mut bytes };
     let why = match talk.speak(&mut input, &mut out) {
         Ok(notes) => {
             // Where descriptor 3 is not open, nobody asks for the report.

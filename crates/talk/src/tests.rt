@@ -92,7 +92,8 @@ const ANSWERS: &[u8] = b"0 0 0\n99 0 0\n0 0 0\n";
 #[test]
 fn over_memory(rt: HostRuntime) {
     let mut input = [0u8; 100];
-    let mut out = [0u8; 2000];
+    let mut bytes = [0u8; 2000];
+    let mut out = Room { bytes: &mut bytes };
     let mut taken = Vec::new(rt.alloc());
     let mut talk = Talk::new(Ends::new(&rt, INPUT, &mut taken));
     let spoken = talk.speak(&mut input, &mut out);
@@ -109,7 +110,8 @@ fn over(
     room: usize,
 ) -> (Option<Failure>, Option<io::Error>) {
     let mut input = [0u8; 100];
-    let mut out = [0u8; 2000];
+    let mut bytes = [0u8; 2000];
+    let mut out = Room { bytes: &mut bytes };
     let from = Uneasy {
         input: INPUT,
         fails,

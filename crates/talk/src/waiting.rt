@@ -18,6 +18,7 @@ pub struct Ends<'a, C, R, W> {
     clock: &'a C,
     from: R,
     to: W,
+    // Beside the session's Failure and not in it: contracts say of an outcome which failure it is (`how ≡ write_failed`), whatever its cause was.
     failure: Option<io::Error>,
 }
 

@@ -18,7 +18,7 @@ pub returns-in_err-write-clause-concludes : goal.returns-in_err-write-clause-con
 returns-in_err-write-clause-concludes g c =
     let p = err_from_is_err_and c.from_residual-in_err-write.result c.from_residual-in_err-write.ensures.1 in
     let finished = c.finish-finished.ensures in
-    let write = rw (front _ _ _ _ finished.1 finished.2 ∙ end_written _ _ c.requires) at c.in_err-write.ensures.writes in
+    let write = rw (front _ _ _ _ finished.1 finished.2 ∙ end_written _ _ c.args.out.now.wide) at c.in_err-write.ensures.writes in
     rw (p.1, p.2, write.2, c.in_ok-heard.was) (
       (λ ok. inr refl, tt),
       λ all heard. (let told = heard.2 (λ e. cc) in
@@ -28,12 +28,12 @@ returns-in_err-write-clause-concludes g c =
 pub returns-clause-concludes : goal.returns-clause-concludes
 returns-clause-concludes g c =
     let finished = c.finish-finished.ensures in
-    let write = rw (front _ _ _ _ finished.1 finished.2 ∙ end_written _ _ c.requires) at c.in_ok-write.ensures.writes in
+    let write = rw (front _ _ _ _ finished.1 finished.2 ∙ end_written _ _ c.args.out.now.wide) at c.in_ok-write.ensures.writes in
     rw c.in_ok-heard.was (
       (λ ok. inl refl, tt),
       λ all heard. (let told = heard.2 (λ e. cc) in (
         heard.0 ∙ sym write.1,
-        (spoken all _ _ _ told.0 told.1 write.2, spoken_notes all _ _ 0 told.0 told.1 _ _ c.requires finished.0),
+        (spoken all _ _ _ told.0 told.1 write.2, spoken_notes all _ _ 0 told.0 told.1 _ _ c.args.out.now.wide finished.0),
         λ e. absurd (cc e),
         λ e. absurd (false≢true e),
       )),

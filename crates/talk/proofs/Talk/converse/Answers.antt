@@ -9,7 +9,7 @@ use Rattle.talk.proofs.Talk.converse.Goals as goal
 
 pub loop-goes_on-init : goal.loop-goes_on-init
 unfolding printed_for
-loop-goes_on-init g c = (refl, refl, ([], rw c.requires.begins none_all, Consumes-nil _, Appends-nil _))
+loop-goes_on-init g c = (refl, ([], rw c.requires.begins none_all, Consumes-nil _, Appends-nil _))
 
 pub loop-goes_on-smaller : goal.loop-goes_on-smaller
 loop-goes_on-smaller g c = rw c.if-not-goes_on.false at (less_to_count _ _ _ _ _ c.in_ok-goes_on.ensures.hears)
@@ -19,9 +19,8 @@ loop-goes_on-preserved g c =
     let at = c.loop-goes_on.invariant in
     let hear = c.in_ok-goes_on.ensures in
     let writes = rw c.read_part-got.ensures.writer at hear.wrote in
-    let heard = heard_more _ _ _ _ _ at.2.0 at.2.1 _ _ _ _ _ _ at.2.2 c.read_part-got.ensures.bytes at.2.3 writes hear.hears in (
+    let heard = heard_more _ _ _ _ _ at.1.0 at.1.1 _ _ _ _ _ _ at.1.2 c.read_part-got.ensures.bytes at.1.3 writes hear.hears in (
       c.read_part-got.ensures.same ∙ at.0,
-      c.hear.auto.out ∙ at.1,
       rw hear.reader (
         heard.0,
         (heard.1.0.0, (heard.1.0.2 (λ e. cc)).0, (heard.1.0.2 (λ e. cc)).1),
@@ -35,7 +34,7 @@ returns-then-not-goes_on g c =
     let at = c.loop-goes_on.invariant in
     let hear = c.in_ok-goes_on.ensures in
     let writes = rw c.read_part-got.ensures.writer at hear.wrote in
-    let heard = heard_more _ _ _ _ _ at.2.0 at.2.1 _ _ _ _ _ _ at.2.2 c.read_part-got.ensures.bytes at.2.3 writes hear.hears in
+    let heard = heard_more _ _ _ _ _ at.1.0 at.1.1 _ _ _ _ _ _ at.1.2 c.read_part-got.ensures.bytes at.1.3 writes hear.hears in
     rw hear.reader (
       heard.0,
       (heard.1.0.0, λ e. absurd (cc e), λ e. heard.1.0.2 (λ e. cc)),
@@ -49,7 +48,7 @@ returns-in_err-goes_on g c =
     let at = c.loop-goes_on.invariant in
     let hear = c.in_err-goes_on.ensures in
     let writes = rw c.read_part-got.ensures.writer at hear.wrote in
-    let heard = heard_more _ _ _ _ _ at.2.0 at.2.1 _ _ _ _ _ _ at.2.2 c.read_part-got.ensures.bytes at.2.3 writes hear.hears in
+    let heard = heard_more _ _ _ _ _ at.1.0 at.1.1 _ _ _ _ _ _ at.1.2 c.read_part-got.ensures.bytes at.1.3 writes hear.hears in
     rw (p.1, p.2, hear.reader) (
       heard.0,
       failed_whole _ _ _ heard.1.0,

@@ -10,7 +10,6 @@ use Rattle.talk.proofs.Talk.converse.Given as goal
 abbrev pub invariant-loop-goes_on : goal.invariant-loop-goes_on
 invariant-loop-goes_on g l =
     (length l.input ≡ length l.fn.input)
-    × (length l.out ≡ length l.fn.out)
     × ((all : List ℕ)
     × HeardAll l.self.heard all
     × Consumes (g.R.Read.remaining l.fn.self.ends.from) (g.R.Read.remaining l.self.ends.from) all

@@ -1,8 +1,7 @@
 -- A piece that is fed is not empty and fits what is left (`left_used`); the last piece makes the part whole (`tells_all`).
 use borrow.Author.Tests.{eqb-false, eqb-true}
 use lib.ListN.{length-drop}
-use Rattle.std.proofs.Common.{◌≡◌, ◌≤◌, length, arith, sym, ◌∙◌, refl}
-use Rattle.text.specs.Text.{answer_room}
+use Rattle.std.proofs.Common.{◌≡◌, length, arith, sym, ◌∙◌, refl}
 use Rattle.std.proofs.lemmas.Result.{err_from_is_err_and}
 use Rattle.session.proofs.Room.{used_fits}
 use Rattle.talk.proofs.Telling.{left_used, tells_all, tells_cut, tells_more, tells_none, tells_some, tells_wrote}
@@ -10,7 +9,7 @@ use Rattle.talk.proofs.Writing.{front, left_all}
 use Rattle.talk.proofs.Talk.tell.Goals as goal
 
 pub loop-rest-init : goal.loop-rest-init
-loop-rest-init g c = (tells_none _ _ _ c.if-prove.false, refl, refl)
+loop-rest-init g c = (tells_none _ _ _ c.if-prove.false, refl)
 
 pub slice_bounds-rest-count : goal.slice_bounds-rest-count
 slice_bounds-rest-count g c = used_fits _ _ _ c.feed-fed.ensures.0
@@ -20,9 +19,8 @@ slice_bounds-rest-start g c = used_fits _ _ _ c.feed-fed.ensures.0
 
 pub loop-rest-smaller : goal.loop-rest-smaller
 loop-rest-smaller g c =
-    let room : answer_room ≤ length c.loop-rest.out = omega (arith, c.requires, c.loop-rest.invariant.1) in
     let some : length c.loop-rest.rest.now ≡ 0 → ⊥ = eqb-false _ 0 (sym c.loop-rest-test.ensures) in
-    let used = left_used _ _ _ _ _ _ c.loop-rest.invariant.0 _ _ some room c.feed-fed.ensures.0 in
+    let used = left_used _ _ _ _ _ _ c.loop-rest.invariant.0 _ _ some c.loop-rest.out.wide c.feed-fed.ensures.0 in
     rw left_all (omega (arith, used.0, used.1, length-drop c.feed-fed.result.used c.loop-rest.rest.now))
 
 pub loop-rest-preserved : goal.loop-rest-preserved
@@ -33,8 +31,7 @@ loop-rest-preserved g c =
     let wrote = rw text at c.in_ok-write.ensures.wrote in
     rw left_all (
       tells_more _ _ _ _ _ _ c.loop-rest.invariant.0 _ _ _ write.1 (write.0 ∙ fed.1) write.2 wrote,
-      c.feed-fed.auto.out ∙ c.loop-rest.invariant.1,
-      c.in_ok-write.ensures.reader ∙ c.loop-rest.invariant.2,
+      c.in_ok-write.ensures.reader ∙ c.loop-rest.invariant.1,
     )
 
 pub returns-clause-answers : goal.returns-clause-answers

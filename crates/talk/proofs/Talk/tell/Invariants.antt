@@ -7,7 +7,6 @@ use Rattle.talk.proofs.Talk.tell.Given as goal
 abbrev pub invariant-loop-rest : goal.invariant-loop-rest
 invariant-loop-rest g l =
     Tells l.fn.self.heard l.part l.self.heard l.rest (g.W.Write.contents l.fn.self.ends.to) (g.W.Write.contents l.self.ends.to)
-    × (length l.out ≡ length l.fn.out)
     × (l.self.ends.from ≡ l.fn.self.ends.from)
 
 abbrev pub decreases-loop-rest : goal.decreases-loop-rest
