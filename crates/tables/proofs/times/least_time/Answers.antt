@@ -1,6 +1,5 @@
 -- None of the times is above never, from which the search starts. Assumes nothing.
 use native.Mathlib.Omega.{arith}
-use Rattle.rows.specs.Numbers.{never}
 use Rattle.words.specs.Words.{has}
 use Rattle.tables.specs.Columns.{at, thread_places}
 use Rattle.tables.specs.Times.{least_among, least_time}
