@@ -9,7 +9,7 @@ ghost use Rattle.session.specs.Stream.{notes_at_end, printed_for, reader_after, 
 
 use calls::{Call, Deed};
 use desk::{Desk, Next};
-use lines::{Fault, LONGEST_LINE};
+use lines::LONGEST_LINE;
 pub use noting::counted;
 use rows::Answer;
 use text::{ANSWER_ROOM, MOST_TICKETS};
@@ -20,11 +20,11 @@ const UNREADABLE: u32 = 99;
 // A line with one byte more than the longest is overlong, so no more of a line is kept.
 const LINE_KEPT: usize = LONGEST_LINE + 1;
 
-// The first line that was not readable: its number, from 1, and why it is not.
+// The first line that was not readable: its number, from 1, and why it is not: a number, since `feed` hands on whatever was noted.
 #[derive(Clone, Copy)]
 pub struct FirstUnreadable {
     pub number: u64,
-    pub fault: Fault,
+    pub fault: u32,
 }
 
 // How many lines there were, how many of them were not readable, and the first of these, if there is one.
