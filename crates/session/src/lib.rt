@@ -182,17 +182,22 @@ pub fn finish(reader: Reader, out: &mut [u8]) -> Finished
         × (result.written ≡ length text)
         × (out.new ≡ text ++ drop (length text) out.old) }
 {
-    let notes = reader.notes;
     if out.len() < ANSWER_ROOM {
-        return Finished { notes, written: 0 };
+        return Finished {
+            notes: reader.notes,
+            written: 0,
+        };
     }
     if reader.held == 0 {
-        return Finished { notes, written: 0 };
+        return Finished {
+            notes: reader.notes,
+            written: 0,
+        };
     }
     // A last line that lacks its newline is answered as if it had one.
     let fed = feed(reader, b"\n", out);
-    let after = fed.reader;
-    let notes = after.notes;
-    let written = fed.written;
-    Finished { notes, written }
+    Finished {
+        notes: fed.reader.notes,
+        written: fed.written,
+    }
 }
