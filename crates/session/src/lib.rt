@@ -99,12 +99,11 @@ pub fn feed(reader: Reader, part: &[u8], out: &mut [u8]) -> Fed
         value: 0,
         time: 0,
     };
-    let desk = reader.desk;
     // The answer to the last line and the desk after it. A call is assigned to it where it is made, which copies no desk: a function that made
     // the calls would hand the desk back by two copies.
     let mut next = Next {
         answer: unreadable,
-        desk,
+        desk: reader.desk,
     };
     let mut line = reader.line;
     let mut held = reader.held;
@@ -151,21 +150,16 @@ pub fn feed(reader: Reader, part: &[u8], out: &mut [u8]) -> Fed
             },
             Some(Call::Sweep(bound)) => {
                 next = desk.sweep(bound, &mut slice);
-                let answer = next.answer;
-                count = swept_count(answer) as usize;
+                count = swept_count(next.answer) as usize;
             }
-            None => next = Next {
-                answer: unreadable,
-                desk,
-            },
+            None => next.answer = unreadable,
         }
         at = text::write_answer(out, at, next.answer, &slice, count);
         held = 0;
     }
-    let desk = next.desk;
     Fed {
         reader: Reader {
-            desk,
+            desk: next.desk,
             line,
             held,
             notes,
