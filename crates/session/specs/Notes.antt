@@ -2,8 +2,7 @@
 -- answers do not depend on it. Assumes nothing.
 use Rattle.std.specs.Prelude.{cond, List, [], ◌∷◌, ℕ, ◌+◌, min, eqb, Option, Some, None}
 use Rattle.calls.specs.declared.Call.{Call}
-use Rattle.lines.specs.declared.reasons.Fault.{Fault}
-use Rattle.lines.specs.Faults.{fault_of}
+use Rattle.lines.specs.Faults.{fault_number, fault_of}
 use Rattle.lines.specs.Lines.{read_line}
 use Rattle.session.specs.declared.FirstUnreadable.{FirstUnreadable}
 use Rattle.session.specs.declared.Notes.{Notes}
@@ -15,8 +14,8 @@ largest_count = 18446744073709551615
 abbrev pub counted_to : ℕ → ℕ → ℕ
 counted_to count more = min (count + more) largest_count
 
--- the first unreadable line: its number, from 1, and why it is unreadable
-abbrev pub first_unreadable : ℕ → Fault → FirstUnreadable
+-- the first unreadable line: its number, from 1, and the number of the reason why it is unreadable
+abbrev pub first_unreadable : ℕ → ℕ → FirstUnreadable
 first_unreadable number fault = record { number = number; fault = fault }
 
 -- how many lines, how many of them unreadable, and the first of these
@@ -31,7 +30,7 @@ unfoldable pub noted_by : Notes → Option Call → List ℕ → Notes
 noted_by n (Some call) line = notes (counted_to n.lines 1) n.unreadable n.first
 noted_by n None line =
     cond (eqb n.unreadable 0)
-    (notes (counted_to n.lines 1) 1 (Some (first_unreadable (counted_to n.lines 1) (fault_of line))))
+    (notes (counted_to n.lines 1) 1 (Some (first_unreadable (counted_to n.lines 1) (fault_number (fault_of line)))))
     (notes (counted_to n.lines 1) (counted_to n.unreadable 1) n.first)
 
 abbrev pub noted : Notes → List ℕ → Notes

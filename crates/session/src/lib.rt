@@ -9,7 +9,7 @@ ghost use Rattle.session.specs.Stream.{notes_at_end, printed_for, reader_after, 
 
 use calls::{Call, Deed};
 use desk::{Desk, Next};
-use lines::{Fault, LONGEST_LINE};
+use lines::LONGEST_LINE;
 pub use noting::counted;
 use rows::Answer;
 use text::{ANSWER_ROOM, MOST_TICKETS};
@@ -20,11 +20,11 @@ const UNREADABLE: u32 = 99;
 // A line with one byte more than the longest is overlong, so no more of a line is kept.
 const LINE_KEPT: usize = LONGEST_LINE + 1;
 
-// The first line that was not readable: its number, from 1, and why it is not.
+// The first line that was not readable: its number, from 1, and why it is not, as a number, since `feed` hands on whatever was noted.
 #[derive(Clone, Copy)]
 pub struct FirstUnreadable {
     pub number: u64,
-    pub fault: Fault,
+    pub fault: u32,
 }
 
 // How many lines there were, how many of them were not readable, and the first of these, if there is one.
@@ -99,12 +99,11 @@ pub fn feed(reader: Reader, part: &[u8], out: &mut [u8]) -> Fed
         value: 0,
         time: 0,
     };
-    let desk = reader.desk;
-    // The answer to the last line and the desk after it. A call is assigned to it where it is made, which copies no desk: a function that made
-    // the calls would hand the desk back by two copies.
+    // The answer to the last line and the desk after it. A call is assigned to it where it is made: with a function that makes any call, which was
+    // tried, a session takes half as long again.
     let mut next = Next {
         answer: unreadable,
-        desk,
+        desk: reader.desk,
     };
     let mut line = reader.line;
     let mut held = reader.held;
@@ -151,21 +150,16 @@ pub fn feed(reader: Reader, part: &[u8], out: &mut [u8]) -> Fed
             },
             Some(Call::Sweep(bound)) => {
                 next = desk.sweep(bound, &mut slice);
-                let answer = next.answer;
-                count = swept_count(answer) as usize;
+                count = swept_count(next.answer) as usize;
             }
-            None => next = Next {
-                answer: unreadable,
-                desk,
-            },
+            None => next.answer = unreadable,
         }
         at = text::write_answer(out, at, next.answer, &slice, count);
         held = 0;
     }
-    let desk = next.desk;
     Fed {
         reader: Reader {
-            desk,
+            desk: next.desk,
             line,
             held,
             notes,
@@ -182,17 +176,22 @@ pub fn finish(reader: Reader, out: &mut [u8]) -> Finished
         × (result.written ≡ length text)
         × (out.new ≡ text ++ drop (length text) out.old) }
 {
-    let notes = reader.notes;
     if out.len() < ANSWER_ROOM {
-        return Finished { notes, written: 0 };
+        return Finished {
+            notes: reader.notes,
+            written: 0,
+        };
     }
     if reader.held == 0 {
-        return Finished { notes, written: 0 };
+        return Finished {
+            notes: reader.notes,
+            written: 0,
+        };
     }
     // A last line that lacks its newline is answered as if it had one.
     let fed = feed(reader, b"\n", out);
-    let after = fed.reader;
-    let notes = after.notes;
-    let written = fed.written;
-    Finished { notes, written }
+    Finished {
+        notes: fed.reader.notes,
+        written: fed.written,
+    }
 }

@@ -24,7 +24,7 @@ impl Notes {
         let first = if self.unreadable == 0 {
             Some(FirstUnreadable {
                 number: lines,
-                fault: lines::faults::fault(line),
+                fault: u32::from(lines::faults::fault(line)),
             })
         } else {
             self.first

@@ -203,7 +203,7 @@ fn report<R: Files + Alloc>(rt: &R, notes: Notes) -> io::Result<()> {
     }
     let mut to = OpenOptions::new().read(true).append(true).open(rt, REPORT)?;
     let (fault, first) = match notes.first {
-        Some(first) => (u32::from(first.fault), first.number),
+        Some(first) => (first.fault, first.number),
         None => (0, 0),
     };
     let unreadable = notes.unreadable;
