@@ -111,6 +111,7 @@ impl<'a, C: Clock, R: Read, W: Write> Talk<'a, C, R, W> {
         // Where nothing is to be told the count stays, and a count is never more than the largest.
         prove!(self.heard.taken <= u64::MAX);
         let mut rest = part;
+        // No `for`: how much of the rest a turn uses is what `feed` answers.
         while !rest.is_empty() {
             let fed = session::feed(self.heard.reader, rest, out.bytes);
             self.heard.reader = fed.reader;
