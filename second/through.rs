@@ -50,7 +50,6 @@ impl Lent {
 
     pub fn call(&mut self, call: Call, slice: &mut [u64]) -> Answer {
         let desk = &mut self.raw;
-        let (memory, length) = (slice.as_mut_ptr(), slice.len());
         answered(match call {
             Call::Channel(thread) => raw::desk_channel(desk, thread),
             Call::NewThread(thread, time) => raw::desk_new_thread(desk, thread, time),
@@ -77,9 +76,8 @@ impl Lent {
             Call::ConsumeUntil(thread, connection, timestamp) => {
                 raw::desk_consume_until(desk, thread, connection, timestamp)
             }
-            // Pointer and length are those of one slice, lent to this call alone.
-            Call::WeakSweep => unsafe { raw::desk_weak_sweep(desk, memory, length) },
-            Call::StrongSweep => unsafe { raw::desk_strong_sweep(desk, memory, length) },
+            Call::WeakSweep => raw::desk_weak_sweep(desk, slice),
+            Call::StrongSweep => raw::desk_strong_sweep(desk, slice),
         })
     }
 }
