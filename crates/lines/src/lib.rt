@@ -96,7 +96,7 @@ fn called(letter: u8, numbers: [u64; MOST_NUMBERS]) -> Option<Call>
     ensures { result ≡ (form_of letter).line (λ place. get_or numbers place 0) }
 {
     let [first, second, third, fourth] = numbers;
-    // no digit is lost: the limits keep the first three within 32 bits
+    // No digit is lost: the limits keep the first three within 32 bits, so that a `try_from` would want a branch that no line takes.
     let first = first as u32;
     let second = second as u32;
     let third = third as u32;

@@ -60,7 +60,8 @@ pub struct Finished {
     pub written: usize,
 }
 
-// How many tickets a sweep with this answer has handed back: a refused one has handed back none, whatever its value.
+// How many tickets a sweep with this answer has handed back: a refused one has handed back none, whatever its value. That it is refused stands in
+// its code, a number here too.
 fn swept_count(answer: Answer) -> u64
     ensures { result ≡ swept_count answer }
 {
