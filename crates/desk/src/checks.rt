@@ -8,7 +8,7 @@ ghost use Rattle.desk.specs.Questions.{connection_exists};
 use crate::Desk;
 use calls::Which;
 use rows::Refusal;
-use rows::answers::needs;
+use rows::refusals::needs;
 use tables::columns::{Owned, at};
 use tables::places::in_use;
 use tables::search::place_of;

@@ -6,7 +6,7 @@ ghost use Rattle.desk.specs.Calls.{came_to, step};
 use crate::checks::{owned_by, timestamp_given, which_given};
 use crate::{Desk, Next};
 use calls::Which;
-use rows::answers::needs;
+use rows::refusals::needs;
 use rows::{Answer, Refusal, Told};
 use tables::columns::{at, hold};
 use tables::search::{place_of, seek};
