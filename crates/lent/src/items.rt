@@ -10,7 +10,7 @@ use calls::Which;
 use desk::{Desk, Next};
 use rows::Answer;
 
-// The by-value get, made where it is compiled into the one function that calls it.
+// The by-value get. Called by `get` itself, it would copy the desk once more.
 fn got(desk: Desk, thread: u32, connection: u32, which: Which) -> Next
     ensures { result ≡ step desk (get thread connection which) }
 {
