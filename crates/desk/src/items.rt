@@ -113,6 +113,7 @@ impl Desk {
     ) -> Result<Told, Refusal>
         ensures { came_to result self.new ≡ step self.old (consume_until thread connection timestamp) }
     {
+        // Columns taken out are asked, and one of them stored whole: why, stands at `Next`.
         let owned = self.owned;
         let mut marks = self.marks;
         self.thread_lives(thread)?;

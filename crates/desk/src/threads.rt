@@ -53,6 +53,7 @@ impl Desk {
     fn try_new_thread(&mut self, thread: u32, time: u32) -> Result<Told, Refusal>
         ensures { came_to result self.new ≡ step self.old (new_thread thread time) }
     {
+        // A copy is asked, and one column stored whole: why, stands at `Next`.
         let before = *self;
         self.thread_lives(thread)?;
         before.time_visible(thread, time)?;
@@ -83,6 +84,7 @@ impl Desk {
     fn try_set(&mut self, thread: u32, time: u32) -> Result<Told, Refusal>
         ensures { came_to result self.new ≡ step self.old (set_time thread time) }
     {
+        // A copy is asked, and one column stored whole: why, stands at `Next`.
         let before = *self;
         self.thread_lives(thread)?;
         before.time_visible(thread, time)?;
