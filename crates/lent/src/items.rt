@@ -10,14 +10,14 @@ use calls::Which;
 use desk::{Desk, Next};
 use rows::Answer;
 
-// The by-value get. Called by `get` itself, it would copy the desk once more.
+// The by-value get, with one caller, so that it is compiled into it. Made by `get` itself, it would copy the desk once more.
 fn got(desk: Desk, thread: u32, connection: u32, which: Which) -> Next
     ensures { result ≡ step desk (get thread connection which) }
 {
     desk.get(thread, connection, which)
 }
 
-// The three gets are this one: a by-value call with one caller is compiled into it.
+// The three gets are this one.
 fn get(desk: &mut Desk, thread: u32, connection: u32, which: Which) -> Answer
     ensures { lent_back result desk.new ≡ step desk.old (get thread connection which) }
 {

@@ -54,7 +54,7 @@ impl From<Result<Told, Refusal>> for Answer {
     }
 }
 
-// `needs`, `with_code` and `telling` are for a caller that goes by numbers, as a host does; one that goes by refusals asks `refusals::needs`.
+// `needs` and `telling` are for a caller that goes by the numbers of codes; one that goes by refusals asks `refusals::needs`.
 
 // One check more of a call: its code where it fails, unless an earlier one has failed.
 pub fn needs(code: u32, holds: bool, refusing: u32) -> u32
