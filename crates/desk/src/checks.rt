@@ -1,13 +1,15 @@
 // The checks, by their codes. Each call asks for its own in the order of document 01, and the first that fails refuses it.
+ghost use Rattle.std.specs.Prelude.{◌≡◌};
 ghost use Rattle.rows.specs.Checks.{Checked};
+ghost use Rattle.desk.specs.declared.Desk.{Desk};
 ghost use Rattle.desk.specs.Calls.{channel_exists, connection_owned, connection_reads, connection_writes, item_fits, place_free, thread_lives, time_visible, timestamp_absent, timestamp_given, which_given};
 ghost use Rattle.desk.specs.Questions.{connection_exists};
 
 use crate::Desk;
 use calls::Which;
 use rows::Refusal;
-use rows::answers::needs;
-use tables::columns::at;
+use rows::refusals::needs;
+use tables::columns::{Owned, at};
 use tables::places::in_use;
 use tables::search::place_of;
 
@@ -36,11 +38,7 @@ impl Desk {
     pub(crate) fn connection_owned(&self, thread: u32, connection: u32) -> Result<(), Refusal>
         ensures { Checked (connection_owned self.now thread connection) result }
     {
-        let own = at(&self.owned, thread);
-        needs(
-            in_use(own, connection, Desk::CONNECTIONS),
-            Refusal::NoConnection,
-        )
+        owned_by(&self.owned, thread, connection)
     }
 
     // 3, of a question, which names no thread
@@ -95,6 +93,17 @@ impl Desk {
     {
         needs(words::count(self.present) < Desk::ITEMS, Refusal::ItemsFull)
     }
+}
+
+// 3, of the column alone, for a call that takes it out of the desk
+pub(crate) fn owned_by(owned: &Owned, thread: u32, connection: u32) -> Result<(), Refusal>
+    ensures { (d : Desk) → d.owned ≡ owned.now → Checked (connection_owned d thread connection) result }
+{
+    let own = at(owned, thread);
+    needs(
+        in_use(own, connection, Desk::CONNECTIONS),
+        Refusal::NoConnection,
+    )
 }
 
 // 5

@@ -3,10 +3,10 @@ ghost use Rattle.std.specs.Prelude.{◌≡◌};
 ghost use Rattle.calls.specs.Calls.{put, get, consume, consume_until};
 ghost use Rattle.desk.specs.Calls.{came_to, step};
 
-use crate::checks::{timestamp_given, which_given};
+use crate::checks::{owned_by, timestamp_given, which_given};
 use crate::{Desk, Next};
 use calls::Which;
-use rows::answers::needs;
+use rows::refusals::needs;
 use rows::{Answer, Refusal, Told};
 use tables::columns::{at, hold};
 use tables::search::{place_of, seek};
@@ -113,12 +113,16 @@ impl Desk {
     ) -> Result<Told, Refusal>
         ensures { came_to result self.new ≡ step self.old (consume_until thread connection timestamp) }
     {
+        // Columns taken out are asked, and one of them stored whole: why, stands at `Next`.
+        let owned = self.owned;
+        let mut marks = self.marks;
         self.thread_lives(thread)?;
-        self.connection_owned(thread, connection)?;
+        owned_by(&owned, thread, connection)?;
         self.connection_reads(connection)?;
         timestamp_given(timestamp)?;
-        let mark = at(&self.marks, connection);
-        self.marks[connection as usize] = mark.max(timestamp + 1);
+        let mark = at(&marks, connection);
+        marks[connection as usize] = mark.max(timestamp + 1);
+        self.marks = marks;
         Ok(Told { value: 0, time: 0 })
     }
 }

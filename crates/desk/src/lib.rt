@@ -41,7 +41,8 @@ pub struct Desk {
 }
 
 // The answer to a call, and the desk after it. Each by-value call takes `mut self` and makes it around the call in place: the form that document 01
-// names for them.
+// names for them. A column that is read or stored to at a place, in place, has the compiler copy the whole desk in and out. So set, new thread
+// and consume until take the one column that they change out and put it back whole, and ask a copy, or columns taken out, before.
 #[repr(C)]
 #[derive(Clone, Copy)]
 pub struct Next {

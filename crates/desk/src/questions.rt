@@ -11,14 +11,14 @@ use rows::{Answer, Refusal, Told};
 use tables::search::place_of;
 
 impl Desk {
-    pub fn visible_time(self, thread: u32) -> Answer
-        ensures { result ≡ reply self (ask_visible_time thread) }
+    pub fn visible_time(&self, thread: u32) -> Answer
+        ensures { result ≡ reply self.now (ask_visible_time thread) }
     {
         Answer::from(self.try_visible_time(thread))
     }
 
-    pub fn weak_bound(self) -> Answer
-        ensures { result ≡ reply self ask_weak_bound }
+    pub fn weak_bound(&self) -> Answer
+        ensures { result ≡ reply self.now ask_weak_bound }
     {
         Answer::from(Ok(Told {
             value: 0,
@@ -26,8 +26,8 @@ impl Desk {
         }))
     }
 
-    pub fn strong_bound(self) -> Answer
-        ensures { result ≡ reply self ask_strong_bound }
+    pub fn strong_bound(&self) -> Answer
+        ensures { result ≡ reply self.now ask_strong_bound }
     {
         Answer::from(Ok(Told {
             value: 0,
@@ -35,14 +35,14 @@ impl Desk {
         }))
     }
 
-    pub fn state(self, connection: u32, timestamp: u32) -> Answer
-        ensures { result ≡ reply self (ask_state_of connection timestamp) }
+    pub fn state(&self, connection: u32, timestamp: u32) -> Answer
+        ensures { result ≡ reply self.now (ask_state_of connection timestamp) }
     {
         Answer::from(self.try_state(connection, timestamp))
     }
 
-    pub fn items_present(self) -> Answer
-        ensures { result ≡ reply self ask_items_present }
+    pub fn items_present(&self) -> Answer
+        ensures { result ≡ reply self.now ask_items_present }
     {
         Answer::from(Ok(Told {
             value: words::count(self.present) as u64,

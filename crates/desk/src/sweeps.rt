@@ -8,7 +8,7 @@ use calls::Bound;
 use leaving::freed::clear;
 use leaving::handed::hand_back;
 use leaving::swept::{items_below, lessen, raise_marks};
-use rows::answers::needs;
+use rows::refusals::needs;
 use rows::{Answer, Refusal, Told};
 
 impl Desk {

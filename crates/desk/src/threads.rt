@@ -53,11 +53,15 @@ impl Desk {
     fn try_new_thread(&mut self, thread: u32, time: u32) -> Result<Told, Refusal>
         ensures { came_to result self.new ≡ step self.old (new_thread thread time) }
     {
+        // A copy is asked, and one column stored whole: why, stands at `Next`.
+        let before = *self;
         self.thread_lives(thread)?;
-        self.time_visible(thread, time)?;
+        before.time_visible(thread, time)?;
         let place = words::lowest_free(self.living);
         place_free(place, Desk::THREADS)?;
-        self.times[place as usize] = time;
+        let mut times = self.times;
+        times[place as usize] = time;
+        self.times = times;
         self.living = words::with(self.living, place);
         Ok(Told {
             value: place as u64,
@@ -80,9 +84,13 @@ impl Desk {
     fn try_set(&mut self, thread: u32, time: u32) -> Result<Told, Refusal>
         ensures { came_to result self.new ≡ step self.old (set_time thread time) }
     {
+        // A copy is asked, and one column stored whole: why, stands at `Next`.
+        let before = *self;
         self.thread_lives(thread)?;
-        self.time_visible(thread, time)?;
-        self.times[thread as usize] = time;
+        before.time_visible(thread, time)?;
+        let mut times = self.times;
+        times[thread as usize] = time;
+        self.times = times;
         Ok(Told { value: 0, time: 0 })
     }
 }

@@ -5,16 +5,24 @@ ghost use Rattle.calls.specs.Calls.{put, get, consume, consume_until};
 ghost use Rattle.desk.specs.Calls.{step};
 ghost use Rattle.lent.specs.Lent.{lent_back};
 
-use crate::lend;
+use crate::stored;
 use calls::Which;
-use desk::Desk;
+use desk::{Desk, Next};
 use rows::Answer;
 
-// The three gets are this one: a by-value call with one caller is compiled into it.
+// The by-value get, with one caller, so that it is compiled into it. Made by `get` itself, it would copy the desk once more.
+fn got(desk: Desk, thread: u32, connection: u32, which: Which) -> Next
+    ensures { result ≡ step desk (get thread connection which) }
+{
+    desk.get(thread, connection, which)
+}
+
+// The three gets are this one.
 fn get(desk: &mut Desk, thread: u32, connection: u32, which: Which) -> Answer
     ensures { lent_back result desk.new ≡ step desk.old (get thread connection which) }
 {
-    lend(desk, |d| d.get(thread, connection, which))
+    let next = got(*desk, thread, connection, which);
+    stored(desk, next)
 }
 
 #[unsafe(no_mangle)]
@@ -27,7 +35,8 @@ pub extern "C" fn desk_put(
 ) -> Answer
     ensures { lent_back result desk.new ≡ step desk.old (put thread connection timestamp ticket) }
 {
-    lend(desk, |d| d.put(thread, connection, timestamp, ticket))
+    let next = desk.put(thread, connection, timestamp, ticket);
+    stored(desk, next)
 }
 
 #[unsafe(no_mangle)]
@@ -65,7 +74,8 @@ pub extern "C" fn desk_consume(
 ) -> Answer
     ensures { lent_back result desk.new ≡ step desk.old (consume thread connection timestamp) }
 {
-    lend(desk, |d| d.consume(thread, connection, timestamp))
+    let next = desk.consume(thread, connection, timestamp);
+    stored(desk, next)
 }
 
 #[unsafe(no_mangle)]
@@ -77,5 +87,6 @@ pub extern "C" fn desk_consume_until(
 ) -> Answer
     ensures { lent_back result desk.new ≡ step desk.old (consume_until thread connection timestamp) }
 {
-    lend(desk, |d| d.consume_until(thread, connection, timestamp))
+    let next = desk.consume_until(thread, connection, timestamp);
+    stored(desk, next)
 }

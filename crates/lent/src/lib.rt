@@ -23,12 +23,10 @@ pub extern "C" fn desk_fresh() -> Desk
     Desk::fresh()
 }
 
-// Each lent call: the desk is taken out of the reference, the by-value call is made on it, and the next desk is stored back.
-fn lend<F: FnOnce(Desk) -> Next>(desk: &mut Desk, call: F) -> Answer
-    requires { F.pre call desk.old }
-    ensures { F.post call desk.old (lent_back result desk.new) }
+// What each lent call ends with: the desk that the by-value call hands back is stored where the host keeps it, and its answer is handed on.
+fn stored(desk: &mut Desk, next: Next) -> Answer
+    ensures { lent_back result desk.new ≡ next }
 {
-    let next = call(*desk);
     *desk = next.desk;
     next.answer
 }

@@ -4,7 +4,7 @@ ghost use Rattle.calls.specs.Calls.{new_channel, new_thread, end, set_time};
 ghost use Rattle.desk.specs.Calls.{step};
 ghost use Rattle.lent.specs.Lent.{lent_back};
 
-use crate::lend;
+use crate::stored;
 use desk::Desk;
 use rows::Answer;
 
@@ -12,26 +12,30 @@ use rows::Answer;
 pub extern "C" fn desk_channel(desk: &mut Desk, thread: u32) -> Answer
     ensures { lent_back result desk.new ≡ step desk.old (new_channel thread) }
 {
-    lend(desk, |d| d.channel(thread))
+    let next = desk.channel(thread);
+    stored(desk, next)
 }
 
 #[unsafe(no_mangle)]
 pub extern "C" fn desk_new_thread(desk: &mut Desk, thread: u32, time: u32) -> Answer
     ensures { lent_back result desk.new ≡ step desk.old (new_thread thread time) }
 {
-    lend(desk, |d| d.new_thread(thread, time))
+    let next = desk.new_thread(thread, time);
+    stored(desk, next)
 }
 
 #[unsafe(no_mangle)]
 pub extern "C" fn desk_end(desk: &mut Desk, thread: u32) -> Answer
     ensures { lent_back result desk.new ≡ step desk.old (end thread) }
 {
-    lend(desk, |d| d.end(thread))
+    let next = desk.end(thread);
+    stored(desk, next)
 }
 
 #[unsafe(no_mangle)]
 pub extern "C" fn desk_set(desk: &mut Desk, thread: u32, time: u32) -> Answer
     ensures { lent_back result desk.new ≡ step desk.old (set_time thread time) }
 {
-    lend(desk, |d| d.set(thread, time))
+    let next = desk.set(thread, time);
+    stored(desk, next)
 }

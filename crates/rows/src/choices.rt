@@ -1,6 +1,6 @@
 // How a search through the items chooses between two of them.
 ghost use Rattle.std.specs.Prelude.{◌≡◌};
-ghost use Rattle.rows.specs.Choices.{preferred, taken_before};
+ghost use Rattle.rows.specs.Choices.{place_found, preferred, taken_before, timestamp_found};
 
 use crate::Found;
 use calls::Which;
@@ -23,5 +23,27 @@ pub fn or_taken(found: Option<Found>, which: Which, other: Found) -> Option<Foun
     match found {
         Some(before) if !is_taken_before(which, other.timestamp, before.timestamp) => found,
         _ => Some(other),
+    }
+}
+
+impl Found {
+    // The place of what was found; for nothing the number of places, which is none.
+    pub fn place(found: Option<Found>) -> u32
+        ensures { result ≡ place_found found }
+    {
+        let Some(found) = found else {
+            return crate::sizes::ITEMS;
+        };
+        found.place
+    }
+
+    // The timestamp of what was found; 0 for nothing.
+    pub fn timestamp(found: Option<Found>) -> u32
+        ensures { result ≡ timestamp_found found }
+    {
+        let Some(found) = found else {
+            return 0;
+        };
+        found.timestamp
     }
 }

@@ -15,8 +15,8 @@ returns-in_err-time_visible c =
     on _ _ _ _ _ c.in_ok-thread_lives.ensures
     (out _ _ _ _ _ _ _ c.from_residual-in_err-time_visible.ensures.1 c.in_err-time_visible.ensures)
 
-pub bounds-self-thread : goal.bounds-self-thread
-bounds-self-thread c = used_inside c.args.self.now.living c.in_ok-thread_lives.ensures
+pub bounds-times-thread : goal.bounds-times-thread
+bounds-times-thread c = used_inside c.args.self.now.living c.in_ok-thread_lives.ensures
 
 pub returns : goal.returns
 unfolding step checks told effect
